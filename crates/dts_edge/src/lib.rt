@@ -1,0 +1,11 @@
+//! The real outside as sources and sinks. Each adapter counts its failures and tells nothing of its
+//! content: what a stream or a file really held or took is trusted, and no clause says it.
+#![tactic(auto)]
+
+mod file_source;
+mod reader_source;
+mod writer_sink;
+
+pub use file_source::FileSource;
+pub use reader_source::ReaderSource;
+pub use writer_sink::WriterSink;
