@@ -32,3 +32,22 @@ pub struct RateRange {
     /// The position of the first such argument, from 0.
     pub which: u8,
 }
+
+impl Rates {
+    ghost use Rattle.std.specs.Prelude.{◌≡◌};
+    ghost use Rattle.slew_clock.specs.UsualRates.{usual_rates};
+
+    /// The rates that a clock has by default: a drift of 100 parts per million, a resolution of one unit
+    /// of 100 ns, a lease of 4 s, a slew of 10,000 parts per million, a tolerance of 10 minutes. Our own choice.
+    pub fn usual() -> Rates
+        ensures usual { result ≡ usual_rates }
+    {
+        Rates {
+            drift_ppm: 100,
+            resolution: 1,
+            lease: 40_000_000,
+            slew_ppm: 10_000,
+            tolerance: 6_000_000_000,
+        }
+    }
+}

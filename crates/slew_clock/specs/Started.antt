@@ -1,0 +1,15 @@
+-- The record that a clock starts with. Our own choice.
+use Rattle.std.specs.Prelude.{ℕ, ℤ, pos, Option, option_map}
+use Rattle.dts_base.specs.declared.interval.Interval.{Interval}
+use Rattle.slew_clock.specs.declared.record.ClockRecord.{ClockRecord}
+
+-- number 0, with no slew, and the first interval as its anchor where one is known
+abbrev pub started : ℕ → ℤ → Option Interval → ClockRecord
+started osc value first = record {
+  number = 0;
+  step = 0;
+  born = osc;
+  anchor = option_map (λ i. record { osc = osc; lo = i.lo; hi = i.hi }) first;
+  a = record { from = osc; value = value; x = pos 0 };
+  b = record { from = osc; x = pos 0 };
+}
