@@ -1,0 +1,4 @@
+pub mod Slewing
+pub mod LineLaws
+pub mod ReadingLaws
+pub mod StartLaws
