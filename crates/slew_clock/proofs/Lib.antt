@@ -2,3 +2,4 @@ pub mod Slewing
 pub mod LineLaws
 pub mod ReadingLaws
 pub mod StartLaws
+pub mod ElapsedLaws
