@@ -1,0 +1,33 @@
+-- Laws of elapsed time.
+use Rattle.std.proofs.Common.{◌≡◌, ℕ, zero, suc, ◌+◌, ◌-◌, ◌*◌, ◌/◌, ◌%◌, ◌<◌, ◌≤◌, min, refl, ap, ◌∙◌, arith}
+use Rattle.std.proofs.Math.Nat.{mul-le-mul_left, mul-le-mul_right, zero-mul}
+use Rattle.slew_clock.specs.declared.rates.Rates.{Rates}
+use Rattle.slew_clock.specs.Elapsed.{drift_of, most, least}
+
+-- no drift without time
+pub drift-zero : (r : Rates) → drift_of r 0 ≡ 0
+drift-zero r = ap (λ v. v / 1000000 + min 1 (v % 1000000)) (zero-mul r.drift_ppm)
+
+pub least-zero : (r : Rates) → least r 0 ≡ 0
+least-zero r = omega arith
+
+pub most-zero : (r : Rates) → most r 0 ≡ r.resolution
+most-zero r = omega (arith, drift-zero r)
+
+-- the drift over x units is at most x
+pub drift_within : (r : Rates) (x : ℕ) → drift_of r x ≤ x
+drift_within r x = omega (arith, mul-le-mul_left x r.drift_in_range)
+
+-- it grows with the time
+pub drift_rises : (r : Rates) (x y : ℕ) → x ≤ y → drift_of r x ≤ drift_of r y
+drift_rises r x y h = omega (arith, mul-le-mul_right r.drift_ppm h)
+
+-- what passed is at least `least` and at most `most`: x is between them
+pub least_within : (r : Rates) (x : ℕ) → least r x ≤ x
+least_within r x = omega arith
+
+pub most_from : (r : Rates) (x : ℕ) → x ≤ most r x
+most_from r x = omega arith
+
+pub most_rises : (r : Rates) (x y : ℕ) → x ≤ y → most r x ≤ most r y
+most_rises r x y h = omega (arith, drift_rises r x y h)
