@@ -1,5 +1,5 @@
 -- Fields of a line of text. Our own choice.
-use Rattle.std.specs.Prelude.{ℕ, List, [], ◌∷◌, Option, Some, None, codes, decimal}
+use Rattle.std.specs.Prelude.{ℕ, List, Option, Some, None, codes, decimal}
 use Rattle.std.specs.List.{join_with_byte}
 
 -- the fields, joined by single spaces

@@ -2,6 +2,8 @@
 use Rattle.std.specs.Prelude.{ℕ, List, [], ◌∷◌, ◌++◌, Option, Some, None, codes, decimal}
 use Rattle.std.specs.Fmt.{signed_decimal}
 use Rattle.slew_clock.specs.declared.record.Anchor.{Anchor}
+use Rattle.slew_clock.specs.declared.record.PartA.{PartA}
+use Rattle.slew_clock.specs.declared.record.PartB.{PartB}
 use Rattle.slew_clock.specs.declared.record.ClockRecord.{ClockRecord}
 use Rattle.dts_capture.specs.declared.action.Action.{Action}
 use Rattle.dts_capture.specs.declared.action.Action.TheVariants as action
@@ -14,11 +16,13 @@ abbrev pub anchor_fields : Option Anchor → List (List ℕ)
 anchor_fields None = codes "-" ∷ codes "-" ∷ codes "-" ∷ []
 anchor_fields (Some anchor) = decimal anchor.osc ∷ signed_decimal anchor.lo ∷ signed_decimal anchor.hi ∷ []
 
--- number, step, born, the anchor, then where each part of the line begins and how far it slews, the first with its value
+-- where each part of the clock's line begins and how far it slews, the first with its value
+abbrev pub line_fields : PartA → PartB → List (List ℕ)
+line_fields a b = decimal a.from ∷ signed_decimal a.value ∷ signed_decimal a.x ∷ decimal b.from ∷ signed_decimal b.x ∷ []
+
+-- a record's number, its step number and where it was born, then the anchor and the line
 abbrev pub record_fields : ClockRecord → List (List ℕ)
-record_fields r =
-    codes "record" ∷ decimal r.number ∷ decimal r.step ∷ decimal r.born ∷ anchor_fields r.anchor
-    ++ decimal r.a.from ∷ signed_decimal r.a.value ∷ signed_decimal r.a.x ∷ decimal r.b.from ∷ signed_decimal r.b.x ∷ []
+record_fields r = codes "record" ∷ decimal r.number ∷ decimal r.step ∷ decimal r.born ∷ anchor_fields r.anchor ++ line_fields r.a r.b
 
 -- a note of an event at osc, of the peer
 abbrev pub note_fields : ℕ → Option ℕ → NoteKind → List (List ℕ)

@@ -3,6 +3,8 @@
 
 mod action;
 mod line;
+mod log;
 
 pub use action::{Action, Note, NoteKind};
 pub use line::{Event, Line, LineCause, LineFault};
+pub use log::{append_action, print_action};
