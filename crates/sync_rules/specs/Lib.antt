@@ -1,0 +1,4 @@
+pub mod History
+pub mod Rules
+pub mod World
+pub mod Safety
