@@ -1,5 +1,5 @@
 -- Laws of elapsed time.
-use Rattle.std.proofs.Common.{◌≡◌, ℕ, zero, suc, ◌+◌, ◌-◌, ◌*◌, ◌/◌, ◌%◌, ◌<◌, ◌≤◌, min, refl, ap, ◌∙◌, arith}
+use Rattle.std.proofs.Common.{◌≡◌, ℕ, ◌+◌, ◌/◌, ◌%◌, ◌≤◌, min, ap, arith}
 use Rattle.std.proofs.Math.Nat.{mul-le-mul_left, mul-le-mul_right, zero-mul}
 use Rattle.slew_clock.specs.declared.rates.Rates.{Rates}
 use Rattle.slew_clock.specs.Elapsed.{drift_of, most, least}

@@ -1,5 +1,5 @@
 -- Laws of the line: where it stands, and that it never falls.
-use Rattle.std.proofs.Common.{◌≡◌, ℕ, ◌+◌, ◌-◌, ◌*◌, ◌/◌, ◌^◌, ◌<◌, ◌≤◌, min, ℤ, pos, negsuc, ◌+ℤ◌, ◌≤ℤ◌, refl, sym, ap, ◌∙◌, subst, inl, inr, arith, nat_le, if◌then◌else◌, le-ltb, le-leb}
+use Rattle.std.proofs.Common.{◌≡◌, ℕ, ◌+◌, ◌-◌, ◌*◌, ◌/◌, ◌^◌, ◌<◌, ◌≤◌, min, ℤ, pos, negsuc, ◌≤ℤ◌, refl, ap, ◌∙◌, inl, inr, arith, nat_le, if◌then◌else◌, le-ltb, le-leb}
 use Rattle.std.proofs.Math.Nat.{div-le_of_le-mul, mul-le-mul_left, mul-le-mul_right, div-mul-le_self, le_trans, zero-div, mul-zero}
 use Rattle.std.proofs.lemmas.Int.{ints}
 use Rattle.std.proofs.lemmas.Nat.{le-div}
@@ -7,7 +7,7 @@ use Rattle.std.proofs.lemmas.Bool.{cases_lt, lt-leb}
 use Rattle.slew_clock.specs.declared.rates.Rates.{Rates}
 use Rattle.slew_clock.specs.declared.record.ClockRecord.{ClockRecord}
 use Rattle.slew_clock.specs.Record.{end_of, greatest_slew, IsSlew, IsSound}
-use Rattle.slew_clock.specs.Line.{floor_of, advance, first_part, second_part, line}
+use Rattle.slew_clock.specs.Line.{advance, first_part, second_part, line}
 use Rattle.slew_clock.proofs.Slewing.{slewed}
 
 -- the greatest slew is at most a whole lease
@@ -60,7 +60,7 @@ line_first r rec o h = grind arith
 -- the value at the lesser of two numbers
 at_least : (f : ℕ → ℤ) (o e : ℕ) → (if nat_le o e then f o else f e) ≡ f (min o e)
 at_least f o e = elim (cases_lt e o) [
-    inl h ↦ let low : min o e ≡ e = omega arith in rw (lt-leb o e h, low)
+  | inl h ↦ let low : min o e ≡ e = omega arith in rw (lt-leb o e h, low)
   | inr h ↦ let low : min o e ≡ o = omega arith in rw (le-leb o e h, low)
 ]
 
@@ -93,13 +93,13 @@ first_below r rec o p s h =
 -- the line of a sound record never falls
 pub line_never_falls : (r : Rates) (rec : ClockRecord) (o p : ℕ) → IsSound r rec → o ≤ p → line r rec o ≤ℤ line r rec p
 line_never_falls r rec o p s h = elim (cases_lt o rec.b.from) [
-    inr second ↦ rw (line_second r rec o second, line_second r rec p (omega arith))
-        (second_rises r rec (min o (end_of r rec)) (min p (end_of r rec)) s (omega arith))
+  | inr second ↦ rw (line_second r rec o second, line_second r rec p (omega arith))
+      (second_rises r rec (min o (end_of r rec)) (min p (end_of r rec)) s (omega arith))
   | inl first ↦ elim (cases_lt p rec.b.from) [
-        inl still ↦ rw (line_first r rec o first, line_first r rec p still) (first_rises r rec o p s h)
-      | inr later ↦ rw (line_first r rec o first, line_second r rec p later)
-            (first_below r rec o (min p (end_of r rec)) s (omega arith))
-    ]
+    | inl still ↦ rw (line_first r rec o first, line_first r rec p still) (first_rises r rec o p s h)
+    | inr later ↦ rw (line_first r rec o first, line_second r rec p later)
+        (first_below r rec o (min p (end_of r rec)) s (omega arith))
+  ]
 ]
 
 -- the line of a sound record is at least 0
@@ -108,21 +108,21 @@ line_from r rec o s =
     let first = advance_from r rec.a.x (o - rec.a.from) s.a_slew in
     let low : pos 0 ≤ℤ first_part r rec o = omega (arith, ints, first, s.value_from) in
     elim (cases_lt o rec.b.from) [
-        inl h ↦ rw (line_first r rec o h) low
+      | inl h ↦ rw (line_first r rec o h) low
       | inr h ↦ rw (line_second r rec o h)
-            (let met = advance_from r rec.a.x (rec.b.from - rec.a.from) s.a_slew in
-            let on = advance_from r rec.b.x (min o (end_of r rec) - rec.b.from) s.b_slew in
-            omega (arith, ints, met, on, s.value_from))
+          (let met = advance_from r rec.a.x (rec.b.from - rec.a.from) s.a_slew in
+          let on = advance_from r rec.b.x (min o (end_of r rec) - rec.b.from) s.b_slew in
+          omega (arith, ints, met, on, s.value_from))
     ]
 
 -- and at most 2^62 + 2 o
 pub line_to : (r : Rates) (rec : ClockRecord) (o : ℕ) → IsSound r rec → rec.a.from ≤ o → line r rec o ≤ℤ pos (2 ^ 62 + 2 * o)
 line_to r rec o s begun = elim (cases_lt o rec.b.from) [
-    inl h ↦ rw (line_first r rec o h)
-        (let on = advance_to r rec.a.x (o - rec.a.from) s.a_slew in omega (arith, ints, on, s.value_to))
+  | inl h ↦ rw (line_first r rec o h)
+      (let on = advance_to r rec.a.x (o - rec.a.from) s.a_slew in omega (arith, ints, on, s.value_to))
   | inr h ↦ rw (line_second r rec o h)
-        (let met = advance_to r rec.a.x (rec.b.from - rec.a.from) s.a_slew in
-        let on = advance_to r rec.b.x (min o (end_of r rec) - rec.b.from) s.b_slew in
-        let meets = parts_meet r rec s in
-        omega (arith, ints, met, on, s.value_to))
+      (let met = advance_to r rec.a.x (rec.b.from - rec.a.from) s.a_slew in
+      let on = advance_to r rec.b.x (min o (end_of r rec) - rec.b.from) s.b_slew in
+      let meets = parts_meet r rec s in
+      omega (arith, ints, met, on, s.value_to))
 ]

@@ -1,13 +1,15 @@
 -- Laws of readings: what a specified inaccuracy says of true time.
-use Rattle.std.proofs.Common.{◌≡◌, ℕ, ◌-◌, ◌^◌, ◌≤◌, ℤ, pos, negsuc, ◌+ℤ◌, ◌-ℤ◌, ◌≤ℤ◌, max, Option, Some, None, refl, sym, ap, ◌∙◌, subst, arith, nat_le, leb-true}
+use Rattle.std.proofs.Common.{◌≡◌, ℕ, ◌-◌, ◌^◌, ◌≤◌, ℤ, pos, negsuc, ◌+ℤ◌, ◌-ℤ◌, ◌≤ℤ◌, Option, Some, None, IfSome, refl, sym, ap, ◌∙◌, subst, arith, nat_le, leb-true}
 use Rattle.std.proofs.lemmas.Int.{ints}
 use Rattle.std.proofs.lemmas.Option.{same_Some, none-some, cond_some}
 use Rattle.slew_clock.specs.declared.rates.Rates.{Rates}
 use Rattle.slew_clock.specs.declared.record.Anchor.{Anchor}
 use Rattle.slew_clock.specs.declared.record.ClockRecord.{ClockRecord}
-use Rattle.slew_clock.specs.Elapsed.{carried}
+use Rattle.slew_clock.specs.Elapsed.{carried, most, least}
+use Rattle.slew_clock.specs.Record.{IsSound, IsSoundAnchor}
 use Rattle.slew_clock.specs.Line.{line}
 use Rattle.slew_clock.specs.Reading.{interval_of, or_zero, reach, specified, inaccuracy_of}
+use Rattle.slew_clock.proofs.ElapsedLaws.{least_within, most_from, drift_within}
 
 -- a record without an anchor has no interval
 pub interval-none : (r : Rates) (rec : ClockRecord) (o : ℕ) → rec.anchor ≡ None → interval_of r rec o ≡ None
@@ -73,3 +75,17 @@ pub reading_contains : (r : Rates) (rec : ClockRecord) (o i : ℕ) (lo hi t : �
 reading_contains r rec o i lo hi t h there from to =
     let is = (specified_is (reach (line r rec o) (lo, hi)) i (sym (inaccuracy-some r rec o (lo, hi) there) ∙ h)).0 in
     subst (λ n. ((line r rec o -ℤ pos n) ≤ℤ t) × (t ≤ℤ (line r rec o +ℤ pos n))) is (reach_contains (line r rec o) lo hi t from to)
+
+-- the interval of a sound record has its ends in order, from 0 to 2^63
+pub interval_within : (r : Rates) (rec : ClockRecord) (o : ℕ) (i : ℤ × ℤ) → IsSound r rec → rec.born ≤ o → o ≤ 2 ^ 60 → interval_of r rec o ≡ Some i → (pos 0 ≤ℤ i.0) × (i.0 ≤ℤ i.1) × (i.1 ≤ℤ pos (2 ^ 63))
+interval_within r rec o i s born small h =
+    let found = interval_anchored r rec o i h in
+    let a = found.0 in
+    let good : IsSoundAnchor rec.born a = subst (λ v. IfSome v (IsSoundAnchor rec.born)) found.1 s.anchor in
+    let low = least_within r (o - a.osc) in
+    let high = most_from r (o - a.osc) in
+    let drift = drift_within r (o - a.osc) in
+    let lo : i.0 ≡ a.lo +ℤ pos (least r (o - a.osc)) = ap (λ p. p.0) found.2 in
+    let hi : i.1 ≡ a.hi +ℤ pos (most r (o - a.osc)) = ap (λ p. p.1) found.2 in
+    let resolution = r.resolution_in_range in
+    (omega (arith, ints, lo, good.from), omega (arith, ints, lo, hi, good.ordered, low, high), omega (arith, ints, hi, good.to, good.before, drift, resolution))

@@ -1,22 +1,16 @@
 -- Laws of the record that a clock starts with.
-use Rattle.std.proofs.Common.{◌≡◌, ℕ, ◌+◌, ◌-◌, ◌*◌, ◌/◌, ◌^◌, ◌<◌, ◌≤◌, min, ℤ, pos, negsuc, ◌+ℤ◌, ◌*ℤ◌, ◌≤ℤ◌, Option, Some, None, IfSome, refl, sym, ap, ◌∙◌, subst, inl, inr, arith, lit≤}
+use Rattle.std.proofs.Common.{◌≡◌, ℕ, ◌+◌, ◌-◌, ◌/◌, ◌^◌, ◌≤◌, min, ℤ, pos, ◌+ℤ◌, ◌≤ℤ◌, Option, Some, None, IfSome, refl, ap, ◌∙◌, inl, arith, lit≤}
 use Rattle.std.proofs.lemmas.Int.{ints}
 use Rattle.std.proofs.Math.Nat.{zero-div, zero-mul, add-zero, le_trans}
 use Rattle.dts_base.specs.declared.interval.Interval.{Interval}
 use Rattle.slew_clock.specs.declared.rates.Rates.{Rates}
-use Rattle.slew_clock.specs.declared.record.Anchor.{Anchor}
-use Rattle.slew_clock.specs.declared.record.ClockRecord.{ClockRecord}
 use Rattle.slew_clock.specs.Elapsed.{carried}
-use Rattle.slew_clock.specs.Record.{end_of, IsSlew, IsSound, IsSoundAnchor}
+use Rattle.slew_clock.specs.Record.{IsSlew, IsSound, IsSoundAnchor}
 use Rattle.slew_clock.specs.Line.{advance, line}
 use Rattle.slew_clock.specs.Reading.{interval_of}
-use Rattle.slew_clock.specs.Started.{started}
-use Rattle.slew_clock.proofs.LineLaws.{line_second, line_never_falls}
+use Rattle.slew_clock.specs.Started.{started, StartsWithin}
+use Rattle.slew_clock.proofs.LineLaws.{line_second}
 use Rattle.slew_clock.proofs.ReadingLaws.{interval-none, interval-some}
-
--- the ends of an interval, where one is given, are times up to 2^61
-abbrev pub StartsWithin : Option Interval → Type 0
-StartsWithin first = IfSome first (λ i. (pos 0 ≤ℤ i.lo) × (i.hi ≤ℤ pos (2 ^ 61)))
 
 -- no slew is allowed by all rates
 pub no_slew : (r : Rates) → IsSlew r (pos 0)
@@ -50,16 +44,16 @@ started_interval-some r osc value i o = interval-some r (started osc value (Some
 
 pub started_sound : (r : Rates) (osc : ℕ) (value : ℤ) (first : Option Interval) → osc ≤ 2 ^ 60 → pos 0 ≤ℤ value → value ≤ℤ pos (2 ^ 61) → StartsWithin first → IsSound r (started osc value first)
 started_sound r osc value first h from to within = record {
-    begun = omega arith;
-    born = h;
-    parts = inl refl;
-    a_slew = no_slew r;
-    b_slew = no_slew r;
-    value_from = from;
-    value_to = omega (arith, ints, to);
-    anchor = anchored first within;
-    steps = lit≤ tt;
-  }
+  begun = omega arith;
+  born = h;
+  parts = inl refl;
+  a_slew = no_slew r;
+  b_slew = no_slew r;
+  value_from = from;
+  value_to = omega (arith, ints, to);
+  anchor = anchored first within;
+  steps = lit≤ tt;
+}
   where
     anchored : (first : Option Interval) → StartsWithin first → IfSome (started osc value first).anchor (IsSoundAnchor osc)
     anchored None within = tt

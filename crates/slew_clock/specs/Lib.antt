@@ -4,3 +4,4 @@ pub mod Line
 pub mod Reading
 pub mod Started
 pub mod UsualRates
+pub mod Ranges

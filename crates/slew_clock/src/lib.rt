@@ -3,10 +3,12 @@
 //! readings counts of such units from an open beginning, at most 2^60.
 #![tactic(auto)]
 
+mod clock;
 mod rates;
 mod reading;
 mod record;
 
+pub use clock::{interval_at, read_at, start};
 pub use rates::{RateRange, Rates};
 pub use reading::{Reading, Regressed};
 pub use record::{Anchor, ClockRecord, PartA, PartB};

@@ -34,8 +34,52 @@ pub struct RateRange {
 }
 
 impl Rates {
-    ghost use Rattle.std.specs.Prelude.{◌≡◌};
+    ghost use Rattle.std.specs.Prelude.{◌≡◌, pos, Some, None, IfOk, MatchResult};
     ghost use Rattle.slew_clock.specs.UsualRates.{usual_rates};
+    ghost use Rattle.slew_clock.specs.Ranges.{first_out};
+    ghost use Rattle.slew_clock.specs.Elapsed.{drift_of, most, least};
+
+    /// These rates, or the position of the first argument that is out of its range. The ranges, which
+    /// include both ends, are those of the fields. Our own choice.
+    pub fn new(
+        drift_ppm: u32,
+        resolution: u32,
+        lease: u64,
+        slew_ppm: u32,
+        tolerance: u64,
+    ) -> Result<Rates, RateRange>
+        ensures drift { IfOk result (λ r. (r.drift_ppm ≡ drift_ppm) × (r.resolution ≡ resolution)) }
+        ensures slew { IfOk result (λ r. (r.lease ≡ lease) × (r.slew_ppm ≡ slew_ppm)) }
+        ensures tolerance { IfOk result (λ r. r.tolerance ≡ tolerance) }
+
+        // Refused is exactly the first argument that is out of its range.
+        ensures refused { MatchResult result
+            (λ _. first_out drift_ppm resolution lease slew_ppm tolerance ≡ None)
+            (λ e. first_out drift_ppm resolution lease slew_ppm tolerance ≡ Some e.which) }
+    {
+        if drift_ppm > 10_000 {
+            return Err(RateRange { which: 0 });
+        }
+        if resolution > 10_000_000 {
+            return Err(RateRange { which: 1 });
+        }
+        if lease < 1_000_000 || lease > 36_000_000_000 {
+            return Err(RateRange { which: 2 });
+        }
+        if slew_ppm < 1 || slew_ppm > 100_000 {
+            return Err(RateRange { which: 3 });
+        }
+        if tolerance < 1 || tolerance > 1_000_000_000_000_000 {
+            return Err(RateRange { which: 4 });
+        }
+        Ok(Rates {
+            drift_ppm,
+            resolution,
+            lease,
+            slew_ppm,
+            tolerance,
+        })
+    }
 
     /// The rates that a clock has by default: a drift of 100 parts per million, a resolution of one unit
     /// of 100 ns, a lease of 4 s, a slew of 10,000 parts per million, a tolerance of 10 minutes. Our own choice.
@@ -49,5 +93,29 @@ impl Rates {
             slew_ppm: 10_000,
             tolerance: 6_000_000_000,
         }
+    }
+
+    // The drift over so many units, rounded up.
+    fn drift(&self, elapsed: u64) -> u64
+        ensures drift { result ≡ drift_of self.now elapsed }
+        ensures within { result ≤ elapsed }
+    {
+        let parts = u128::from(elapsed) * u128::from(self.drift_ppm);
+        parts.div_ceil(1_000_000) as u64
+    }
+
+    // The most that passed where the oscillator went on by so many units.
+    pub(crate) fn most(&self, elapsed: u64) -> i128
+        ensures { result ≡ pos (most self.now elapsed) }
+    {
+        i128::from(elapsed) + i128::from(self.drift(elapsed)) + i128::from(self.resolution)
+    }
+
+    // The least that passed.
+    pub(crate) fn least(&self, elapsed: u64) -> i128
+        ensures { result ≡ pos (least self.now elapsed) }
+    {
+        let least = (elapsed - self.drift(elapsed)).saturating_sub(u64::from(self.resolution));
+        i128::from(least)
     }
 }
