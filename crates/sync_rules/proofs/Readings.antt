@@ -24,7 +24,7 @@ only_one x a (zero, lt, e) = e
 only_one x a (suc k, lt, e) = absurd (omega arith)
 
 -- an event that only reads publishes nothing
-published_none : (h : History) (e : Event) (rec : ClockRecord) → published rec (actions_of h e) ≡ rec
+pub published_none : (h : History) (e : Event) (rec : ClockRecord) → published rec (actions_of h e) ≡ rec
 unfolding actions_of
 published_none h (event.Read osc) rec = elim (is_live h (event.Read osc)) as (λ b. published rec (cond b (live_actions h (event.Read osc)) (regressed_actions h (event.Read osc))) ≡ rec) [ true ↦ refl | false ↦ refl ]
 
@@ -58,9 +58,23 @@ last_osc_grows h (event.Read osc) actions =
     | false ↦ λ dead. omega arith
     ] refl
 
-last_osc_live : (h : History) (osc : ℕ) (actions : List Action) → is_live h (event.Read osc) ≡ true → last_osc (Lane 0) (Then h (event.Read osc) actions) ≡ osc
+-- a live read is the last of its lane, and a regressed one isn't
+pub last_osc_live : (h : History) (osc : ℕ) (actions : List Action) → is_live h (event.Read osc) ≡ true → last_osc (Lane 0) (Then h (event.Read osc) actions) ≡ osc
 unfolding last_osc
 last_osc_live h osc actions live = ap (λ b. cond b osc (last_osc (Lane 0) h)) live
+
+pub last_osc_regressed : (h : History) (osc : ℕ) (actions : List Action) → is_live h (event.Read osc) ≡ false → last_osc (Lane 0) (Then h (event.Read osc) actions) ≡ last_osc (Lane 0) h
+unfolding last_osc
+last_osc_regressed h osc actions dead = ap (λ b. cond b osc (last_osc (Lane 0) h)) dead
+
+-- which actions a read gives
+pub actions_live : (h : History) (osc : ℕ) → is_live h (event.Read osc) ≡ true → actions_of h (event.Read osc) ≡ live_actions h (event.Read osc)
+unfolding actions_of
+actions_live h osc live = ap (λ b. cond b (live_actions h (event.Read osc)) (regressed_actions h (event.Read osc))) live
+
+pub actions_regressed : (h : History) (osc : ℕ) → is_live h (event.Read osc) ≡ false → actions_of h (event.Read osc) ≡ regressed_actions h (event.Read osc)
+unfolding actions_of
+actions_regressed h osc dead = ap (λ b. cond b (live_actions h (event.Read osc)) (regressed_actions h (event.Read osc))) dead
 
 -- a reading in a history of reads: where it stands, and what it says
 pub record IsReadAt (h : History) (i : ℕ) (shown : Shown) : Type 0 where

@@ -1,0 +1,104 @@
+-- What one more line makes of a replay.
+use Rattle.std.proofs.Common.{◌≡◌, ℕ, ◌+◌, ◌^◌, ◌<◌, ◌≤◌, List, [], ◌∷◌, ◌++◌, length, map, Option, Some, None, refl, sym, ap, ◌∙◌, subst, append_assoc, arith}
+use Rattle.std.specs.Prelude.{flat_map}
+use Rattle.std.proofs.lemmas.List.{length-append, append-nil, map-append}
+use Rattle.slew_clock.specs.declared.rates.Rates.{Rates}
+use Rattle.dts_capture.specs.declared.line.Event.{Event}
+use Rattle.dts_capture.specs.declared.line.Line.{Line}
+use Rattle.dts_capture.specs.declared.line.Line.TheVariants as line
+use Rattle.dts_capture.specs.declared.action.Action.{Action}
+use Rattle.dts_capture.specs.declared.action.Action.TheVariants as action
+use Rattle.dts_capture.specs.Capture.{Spells}
+use Rattle.dts_capture.specs.Log.{log_text}
+use Rattle.sync_rules.specs.History.{History, Begun, Then, Start, log_of, first_record}
+use Rattle.sync_rules.specs.Rules.{actions_of, followed_by, extended}
+use Rattle.dts_program.specs.declared.node.Node.{Node}
+use Rattle.dts_program.specs.declared.replay.Replay.{Replay}
+use Rattle.dts_program.specs.Capture.{Capture, start_line, event_line, said_by, said, SpellEach, Begins, history_of}
+use Rattle.dts_program.specs.Output.{output_of}
+use Rattle.dts_program.specs.Standing.{StandsFor, NodeStands, StandsAt, logged}
+use Rattle.dts_program.proofs.CaptureFacts.{SpellEach-append, said-append, divides}
+
+-- the texts with one more
+length-more : (texts : List (List ℕ)) (text : List ℕ) → length (texts ++ text ∷ []) ≡ length texts + 1
+length-more texts text = length-append texts (text ∷ [])
+
+-- events with one more at the end
+extended-more : (h : History) (events : List Event) (e : Event) → extended h (events ++ e ∷ []) ≡ followed_by (extended h events) e
+extended-more h [] e = refl
+extended-more h (event ∷ events) e = extended-more (followed_by h event) events e
+
+-- the log with the one action that an event gives
+log_of-more : (h : History) (e : Event) (a : Action) → actions_of h e ≡ a ∷ [] → log_of (followed_by h e) ≡ log_of h ++ log_text a
+unfolding log_of
+log_of-more h e a one = ap (λ xs. log_of h ++ flat_map log_text xs) one ∙ ap (λ x. log_of h ++ x) (append-nil (log_text a))
+
+-- one more line that says something
+begins_more : (texts : List (List ℕ)) (text : List ℕ) (value : Line) (capture more : Option Capture) → Begins texts capture → Spells text value → length texts + 1 < 2 ^ 32
+    → said_by capture ++ said (value ∷ []) ≡ said_by more → Begins (texts ++ text ∷ []) more
+begins_more texts text value capture more begins spells few says = record {
+  values = begins.values ++ value ∷ [];
+  spelled = SpellEach-append texts (text ∷ []) begins.values (value ∷ []) begins.spelled (spells, tt);
+  says = said-append begins.values (value ∷ []) ∙ ap (λ x. x ++ said (value ∷ [])) begins.says ∙ says;
+  few = omega (arith, length-more texts text);
+}
+
+-- the state after a line, as lines and node
+abbrev pub after_line : Replay → Option Node → Replay
+after_line replay node = record { rates = replay.rates; lines = replay.lines + 1; node = node }
+
+pub took_blank : (rates : Rates) (replay : Replay) (texts : List (List ℕ)) (text : List ℕ) (capture : Option Capture) → StandsAt rates replay texts capture → replay.lines + 1 < 2 ^ 32
+    → Spells text line.Blank → StandsAt rates (after_line replay replay.node) (texts ++ text ∷ []) capture
+took_blank rates replay texts text capture stands few spells = record {
+  rates_are = stands.rates_are;
+  count = omega (arith, stands.count, length-more texts text);
+  begins = begins_more texts text line.Blank capture capture stands.begins spells (omega (arith, stands.count)) (append-nil (said_by capture));
+  node = stands.node;
+}
+
+-- the line was taken: its lines begin this capture, whose log has the text of the action more
+pub record Took (rates : Rates) (replay : Replay) (texts : List (List ℕ)) (capture : Option Capture) (action : Option Action) : Type 0 where
+  pub more : Option Capture
+  pub stands : StandsAt rates replay texts more
+  pub log : output_of rates more ≡ output_of rates capture ++ logged action
+
+pub took_start : (rates : Rates) (replay : Replay) (node : Node) (texts : List (List ℕ)) (text : List ℕ) (start : Start) (a : Action) → StandsAt rates replay texts None → replay.lines + 1 < 2 ^ 32
+    → Spells text (start_line start) → StandsFor node (Begun rates start) → a ≡ action.Publish (first_record start)
+    → Took rates (after_line replay (Some node)) (texts ++ text ∷ []) None (Some a)
+unfolding log_of
+took_start rates replay node texts text start a stands few spells begun is = record {
+  more = Some (record { start = start; events = [] });
+  stands = record {
+    rates_are = stands.rates_are;
+    count = omega (arith, stands.count, length-more texts text);
+    begins = begins_more texts text (start_line start) None (Some (record { start = start; events = [] })) stands.begins spells (omega (arith, stands.count)) refl;
+    node = begun;
+  };
+  log = ap log_text (sym is);
+}
+
+pub took_event : (rates : Rates) (replay : Replay) (node : Node) (texts : List (List ℕ)) (text : List ℕ) (capture : Capture) (e : Event) (a : Action) → StandsAt rates replay texts (Some capture) → replay.lines + 1 < 2 ^ 32
+    → Spells text (event_line e) → StandsFor node (followed_by (history_of rates capture) e) → actions_of (history_of rates capture) e ≡ a ∷ []
+    → Took rates (after_line replay (Some node)) (texts ++ text ∷ []) (Some capture) (Some a)
+took_event rates replay node texts text capture e a stands few spells follows one =
+    let more : Capture = record { start = capture.start; events = capture.events ++ e ∷ [] } in
+    let history : history_of rates more ≡ followed_by (history_of rates capture) e = extended-more (Begun rates capture.start) capture.events e in
+    record {
+      more = Some more;
+      stands = record {
+        rates_are = stands.rates_are;
+        count = omega (arith, stands.count, length-more texts text);
+        begins = begins_more texts text (event_line e) (Some capture) (Some more) stands.begins spells (omega (arith, stands.count))
+            (ap (λ ls. start_line capture.start ∷ ls) (sym (map-append event_line capture.events (e ∷ []))));
+        node = subst (StandsFor node) (sym history) follows;
+      };
+      log = ap log_of history ∙ log_of-more (history_of rates capture) e a one;
+    }
+
+pub took_nothing : (rates : Rates) (replay : Replay) (texts : List (List ℕ)) (text : List ℕ) (capture : Option Capture) → StandsAt rates replay texts capture → replay.lines + 1 < 2 ^ 32
+    → Spells text line.Blank → Took rates (after_line replay replay.node) (texts ++ text ∷ []) capture None
+took_nothing rates replay texts text capture stands few spells = record {
+  more = capture;
+  stands = took_blank rates replay texts text capture stands few spells;
+  log = sym (append-nil (output_of rates capture));
+}

@@ -1,0 +1,15 @@
+use Rattle.std.proofs.Common.{refl, ap, ◌∙◌, w64}
+use Rattle.std.proofs.lemmas.Int.{to_z-of_z}
+use Rattle.slew_clock.specs.Started.{started}
+use Rattle.sync_rules.specs.History.{current_record}
+use Rattle.sync_rules.specs.Rules.{last_osc}
+use Rattle.dts_program.proofs.node.Node.start.Goals as goal
+
+pub returns-clause-stands : goal.returns-clause-stands
+unfolding current_record last_osc
+returns-clause-stands c = record {
+  rates = refl;
+  current = c.start-current.ensures.record ∙ ap (λ v. started c.args.osc v c.args.first) (to_z-of_z w64 c.args.value c.ranges.value);
+  last = refl;
+  sound = c.start-current.ensures.sound c.args.rates;
+}

@@ -1,0 +1,5 @@
+pub mod Lines
+pub mod Capture
+pub mod Output
+pub mod Numbers
+pub mod Standing

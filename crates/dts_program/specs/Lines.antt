@@ -1,0 +1,26 @@
+-- The lines of octets. Our own choice.
+use Rattle.std.specs.Prelude.{◌≡◌, ◌≢◌, ℕ, List, [], ◌∷◌, ◌++◌, flat_map, ◌==◌, if◌then◌else◌}
+
+-- the octet in front of the first line
+abbrev pub with_first : ℕ → List (List ℕ) → List (List ℕ)
+with_first octet [] = (octet ∷ []) ∷ []
+with_first octet (line ∷ lines) = (octet ∷ line) ∷ lines
+
+-- the lines: each ends with a line feed, which the last one may lack
+unfoldable pub lines_of : List ℕ → List (List ℕ)
+lines_of [] = []
+lines_of (octet ∷ octets) = if octet == 10 then [] ∷ lines_of octets else with_first octet (lines_of octets)
+
+-- the octets have no line feed
+abbrev pub IsLine : List ℕ → Type 0
+IsLine [] = Unit {0}
+IsLine (octet ∷ octets) = (octet ≢ 10) × IsLine octets
+
+abbrev pub AreLines : List (List ℕ) → Type 0
+AreLines [] = Unit {0}
+AreLines (line ∷ lines) = IsLine line × AreLines lines
+
+-- lines, each with its line feed
+abbrev pub with_feeds : List (List ℕ) → List ℕ
+with_feeds [] = []
+with_feeds (line ∷ lines) = line ++ 10 ∷ with_feeds lines

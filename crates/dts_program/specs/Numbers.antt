@@ -1,0 +1,12 @@
+-- The numbers that the program ends with. Our own choice.
+use Rattle.std.specs.Prelude.{ℕ}
+use Rattle.dts_program.specs.declared.status.Status.{Status}
+use Rattle.dts_program.specs.declared.status.Status.TheVariants as status
+
+abbrev pub number_of : Status → ℕ
+number_of status.Done = 0
+number_of status.Usage = 1
+number_of (status.CaptureRefused line column cause) = 2
+number_of (status.ReadFault which) = 4
+number_of (status.WriteFault which) = 5
+number_of status.NoMemory = 6

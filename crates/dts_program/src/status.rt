@@ -1,0 +1,80 @@
+use dts_capture::LineCause;
+use thiserror::Error;
+
+/// The sources of the program. Our own choice.
+#[derive(Clone, Copy, Debug, PartialEq, Eq, Error)]
+pub enum SourceName {
+    /// Standard input.
+    #[error("the input")]
+    Input,
+    /// The roster file.
+    #[error("the roster file")]
+    RosterFile,
+}
+
+/// The sinks of the program. Our own choice.
+#[derive(Clone, Copy, Debug, PartialEq, Eq, Error)]
+pub enum SinkName {
+    /// Standard output.
+    #[error("the output")]
+    Output,
+    /// The capture of the sync half.
+    #[error("the sync capture")]
+    SyncCapture,
+    /// The capture of a serve half.
+    #[error("the serve capture {worker}")]
+    ServeCapture { worker: u32 },
+    /// The log of a serve half.
+    #[error("the serve log {worker}")]
+    ServeLog { worker: u32 },
+}
+
+/// What a command answers. Our own choice.
+#[derive(Clone, Copy, Debug, PartialEq, Eq, Error)]
+pub enum Status {
+    /// The input was read to its end.
+    #[error("done")]
+    Done,
+    /// The words are no command line.
+    #[error("usage: dts replay")]
+    Usage,
+    /// A line of the capture is refused; the log of the earlier lines stands.
+    #[error("line {line}, column {column}: {cause}")]
+    CaptureRefused {
+        line: u64,
+        column: u32,
+        cause: LineCause,
+    },
+    /// A source failed.
+    #[error("{which} can't be read")]
+    ReadFault {
+        which: SourceName,
+    },
+    /// A sink failed; what was written is the beginning of the output.
+    #[error("{which} can't be written")]
+    WriteFault {
+        which: SinkName,
+    },
+    /// No memory was found; what was written is the beginning of the output.
+    #[error("out of memory")]
+    NoMemory,
+}
+
+impl Status {
+    ghost use Rattle.std.specs.Prelude.{◌≡◌};
+    ghost use Rattle.dts_program.specs.Numbers.{number_of};
+
+    /// The number that the program ends with.
+    pub fn number(self) -> u8
+        ensures number { result ≡ number_of self }
+    {
+        match self {
+            Status::Done => 0,
+            Status::Usage => 1,
+            Status::CaptureRefused { .. } => 2,
+            Status::ReadFault { .. } => 4,
+            Status::WriteFault { .. } => 5,
+            Status::NoMemory => 6,
+        }
+    }
+}
