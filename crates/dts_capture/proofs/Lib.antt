@@ -1,1 +1,5 @@
 pub mod Print
+pub mod Numbers
+pub mod Cuts
+pub mod Lines
+pub mod Unique

@@ -29,17 +29,28 @@ IsFirst (Some first) = IsCount first.lo × IsCount first.hi
 abbrev pub event_fields : Event → List (List ℕ)
 event_fields (event.Read osc) = codes "read" ∷ decimal osc ∷ []
 
+-- oscillator readings are at most 2^60
 abbrev pub IsEvent : Event → Type 0
 IsEvent (event.Read osc) = osc ≤ 2 ^ 60
 
--- the fields and ranges of a line; a served event has no line yet
+-- the fields of a line; a blank line has none
+abbrev pub line_fields : Line → List (List ℕ)
+line_fields line.Blank = []
+line_fields (line.Start osc value first) = codes "start" ∷ decimal osc ∷ signed_decimal value ∷ first_fields first
+line_fields (line.Event at e) = event_fields e
+
+-- the line has fields, with their numbers in range; a served event has none yet
+abbrev pub HasFields : Line → Type 0
+HasFields line.Blank = ⊥
+HasFields (line.Start osc value first) = (osc ≤ 2 ^ 60) × IsCount value × IsFirst first
+HasFields (line.Event None e) = IsEvent e
+HasFields (line.Event (Some k) e) = ⊥
+
+-- a text of any length spells the line
 abbrev pub IsSpelling : List ℕ → Line → Type 0
 IsSpelling text line.Blank = IsBlank text
-IsSpelling text (line.Start osc value first) =
-    (text ≡ text_of (codes "start" ∷ decimal osc ∷ signed_decimal value ∷ first_fields first)) × (osc ≤ 2 ^ 60) × IsCount value × IsFirst first
-IsSpelling text (line.Event None e) = (text ≡ text_of (event_fields e)) × IsEvent e
-IsSpelling text (line.Event (Some k) e) = ⊥
+IsSpelling text l = (text ≡ text_of (line_fields l)) × HasFields l
 
 -- the text is a line of this value: at most 16,384 octets, a comment too
 abbrev pub Spells : List ℕ → Line → Type 0
-Spells text value = IsSpelling text value × (length text ≤ 16384)
+Spells text l = IsSpelling text l × (length text ≤ 16384)

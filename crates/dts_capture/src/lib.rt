@@ -2,9 +2,12 @@
 #![tactic(auto)]
 
 mod action;
+mod fields;
 mod line;
 mod log;
+mod parse;
 
 pub use action::{Action, Note, NoteKind};
 pub use line::{Event, Line, LineCause, LineFault};
 pub use log::{append_action, print_action};
+pub use parse::{one_value, parse_line};
