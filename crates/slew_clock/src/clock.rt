@@ -15,7 +15,7 @@ pub fn start(osc: u64, value: i64, first: Option<Interval>) -> ClockRecord
     requires from { pos 0 ≤ℤ value }
     requires to { value ≤ℤ pos (2 ^ 61) }
     requires first { StartsWithin first }
-    ensures record { result ≡ started osc value first }
+    ensures made { result ≡ started osc value first }
     ensures sound { (r : Rates) → IsSound r result }
 {
     let anchor = first.map(|i| Anchor {

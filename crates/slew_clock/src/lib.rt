@@ -7,6 +7,8 @@ mod clock;
 mod rates;
 mod reading;
 mod record;
+#[cfg(test)]
+mod tests;
 
 pub use clock::{interval_at, read_at, start};
 pub use rates::{RateRange, Rates};
