@@ -25,3 +25,6 @@ pub use numbers::{Oscillator, Words};
 pub use outcome::{Failed, NoMemory};
 pub use sink::{Sink, write_all};
 pub use source::Source;
+
+#[cfg(test)]
+mod tests;

@@ -38,6 +38,34 @@ impl MemoryLink {
         }
     }
 
+    /// Lends the places that were said.
+    pub fn places(&self) -> &[Place]
+        ensures places { result.now ≡ self.now.places.items }
+    {
+        self.places.as_slice()
+    }
+
+    /// Lends the addresses that are served.
+    pub fn served(&self) -> &[Served]
+        ensures served { result.now ≡ self.now.served.items }
+    {
+        self.served.as_slice()
+    }
+
+    /// Lends the pieces that were sent.
+    pub fn sent(&self) -> &[Sent]
+        ensures sent { result.now ≡ self.now.sent.items }
+    {
+        self.sent.as_slice()
+    }
+
+    /// Lends the peers that were closed.
+    pub fn closed(&self) -> &[u32]
+        ensures closed { result.now ≡ self.now.closed.items }
+    {
+        self.closed.as_slice()
+    }
+
     // Counts a fault for want of memory.
     fn starve(&mut self) -> Failed
         ensures lists { link_lists self.new ≡ link_lists self.old }
