@@ -6,16 +6,11 @@ use Rattle.dts_capture.specs.declared.line.Event.{Event}
 use Rattle.dts_capture.specs.declared.line.Line.{Line}
 use Rattle.dts_capture.specs.declared.line.Line.TheVariants as line
 use Rattle.dts_capture.specs.Capture.{Spells}
+use Rattle.dts_capture.proofs.Unique.{Spells-unique}
 use Rattle.sync_rules.specs.History.{Start}
 use Rattle.dts_program.specs.Capture.{Capture, start_line, event_line, said_by, said, SpellEach, Begins}
+use Rattle.dts_program.specs.Standing.{GoesNoFurther}
 use Rattle.dts_program.proofs.CaptureFacts.{said-append, divides}
-
-Spells-unique : (text : List ℕ) (v w : Line) → Spells text v → Spells text w → v ≡ w
-Spells-unique text v w = ?
-
--- no capture begins with these lines and then this one
-abbrev pub GoesNoFurther : List (List ℕ) → List ℕ → Type 0
-GoesNoFurther texts text = (more : Option Capture) → Begins (texts ++ text ∷ []) more → ⊥
 
 pub SpellEach-unique : (texts : List (List ℕ)) (values others : List Line) → SpellEach texts values → SpellEach texts others → values ≡ others
 SpellEach-unique [] [] [] each each' = refl

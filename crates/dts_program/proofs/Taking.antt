@@ -16,7 +16,7 @@ use Rattle.dts_program.specs.declared.node.Node.{Node}
 use Rattle.dts_program.specs.declared.replay.Replay.{Replay}
 use Rattle.dts_program.specs.Capture.{Capture, start_line, event_line, said_by, said, SpellEach, Begins, history_of}
 use Rattle.dts_program.specs.Output.{output_of}
-use Rattle.dts_program.specs.Standing.{StandsFor, NodeStands, StandsAt, logged}
+use Rattle.dts_program.specs.Standing.{StandsFor, NodeStands, StandsAt, Took, after_line, logged}
 use Rattle.dts_program.proofs.CaptureFacts.{SpellEach-append, said-append, divides}
 
 -- the texts with one more
@@ -43,10 +43,6 @@ begins_more texts text value capture more begins spells few says = record {
   few = omega (arith, length-more texts text);
 }
 
--- the state after a line, as lines and node
-abbrev pub after_line : Replay → Option Node → Replay
-after_line replay node = record { rates = replay.rates; lines = replay.lines + 1; node = node }
-
 pub took_blank : (rates : Rates) (replay : Replay) (texts : List (List ℕ)) (text : List ℕ) (capture : Option Capture) → StandsAt rates replay texts capture → replay.lines + 1 < 2 ^ 32
     → Spells text line.Blank → StandsAt rates (after_line replay replay.node) (texts ++ text ∷ []) capture
 took_blank rates replay texts text capture stands few spells = record {
@@ -55,12 +51,6 @@ took_blank rates replay texts text capture stands few spells = record {
   begins = begins_more texts text line.Blank capture capture stands.begins spells (omega (arith, stands.count)) (append-nil (said_by capture));
   node = stands.node;
 }
-
--- the line was taken: its lines begin this capture, whose log has the text of the action more
-pub record Took (rates : Rates) (replay : Replay) (texts : List (List ℕ)) (capture : Option Capture) (action : Option Action) : Type 0 where
-  pub more : Option Capture
-  pub stands : StandsAt rates replay texts more
-  pub log : output_of rates more ≡ output_of rates capture ++ logged action
 
 pub took_start : (rates : Rates) (replay : Replay) (node : Node) (texts : List (List ℕ)) (text : List ℕ) (start : Start) (a : Action) → StandsAt rates replay texts None → replay.lines + 1 < 2 ^ 32
     → Spells text (start_line start) → StandsFor node (Begun rates start) → a ≡ action.Publish (first_record start)

@@ -24,3 +24,8 @@ AreLines (line ∷ lines) = IsLine line × AreLines lines
 abbrev pub with_feeds : List (List ℕ) → List ℕ
 with_feeds [] = []
 with_feeds (line ∷ lines) = line ++ 10 ∷ with_feeds lines
+
+-- octets without a line feed at the end of all: a last line, or nothing
+abbrev pub last_line : List ℕ → List (List ℕ)
+last_line [] = []
+last_line (octet ∷ octets) = (octet ∷ octets) ∷ []

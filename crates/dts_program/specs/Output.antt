@@ -1,11 +1,13 @@
 -- The output of a command. Our own choice.
-use Rattle.std.specs.Prelude.{◌≡◌, ℕ, List, [], ◌++◌, Option, Some, None}
+use Rattle.std.specs.Prelude.{◌≡◌, ◌⊎◌, ℕ, List, [], ◌++◌, Option, Some, None}
 use Rattle.dts_base.specs.Told.{Told}
 use Rattle.dts_base.specs.Streams.{BeginsWith}
 use Rattle.slew_clock.specs.declared.rates.Rates.{Rates}
 use Rattle.dts_capture.specs.declared.line.LineCause.{LineCause}
 use Rattle.dts_capture.specs.declared.line.LineCause.TheVariants as cause
-use Rattle.sync_rules.specs.History.{log_of}
+use Rattle.sync_rules.specs.History.{History, log_of}
+use Rattle.sync_rules.specs.Rules.{IsRuled}
+use Rattle.sync_rules.specs.Safety.{IsSafe}
 use Rattle.dts_program.specs.Capture.{Capture, Begins, RefusedLine, IsRefused, history_of}
 use Rattle.dts_program.specs.declared.status.Status.{Status}
 use Rattle.dts_program.specs.declared.status.Status.TheVariants as status
@@ -54,3 +56,18 @@ Replays rates texts status.NoMemory text = IsPart rates texts text
 -- a sink that told what it held tells that, and then the text
 abbrev pub Wrote : Option (List ℕ) → Option (List ℕ) → List ℕ → Type 0
 Wrote before now text = Told before now (λ old new. new ≡ old ++ text)
+
+-- the log of a history where the replay came to its end or to a refused line, and else the beginning of one
+abbrev pub IsLogAt : Status → List ℕ → History → Type 0
+IsLogAt status.Done text history = text ≡ log_of history
+IsLogAt status.Usage text history = ⊥
+IsLogAt (status.CaptureRefused line column why) text history = text ≡ log_of history
+IsLogAt (status.ReadFault which) text history = BeginsWith text (log_of history)
+IsLogAt (status.WriteFault which) text history = BeginsWith text (log_of history)
+IsLogAt status.NoMemory text history = BeginsWith text (log_of history)
+
+-- what was written is of a safe history, or nothing before the start
+pub record WroteSafely (s : Status) (before now : Option (List ℕ)) : Type 0 where
+  pub text : List ℕ
+  pub wrote : Wrote before now text
+  pub safe : (text ≡ []) ⊎ ((history : History) × IsRuled history × IsSafe history × IsLogAt s text history)

@@ -1,5 +1,5 @@
 -- Which histories and captures the state of a replay stands for. Our own choice.
-use Rattle.std.specs.Prelude.{◌≡◌, ℕ, List, [], ◌++◌, length, Option, Some, None}
+use Rattle.std.specs.Prelude.{◌≡◌, ℕ, ◌+◌, List, [], ◌∷◌, ◌++◌, length, Option, Some, None}
 use Rattle.slew_clock.specs.declared.rates.Rates.{Rates}
 use Rattle.slew_clock.specs.Record.{IsSound}
 use Rattle.dts_capture.specs.declared.action.Action.{Action}
@@ -9,6 +9,7 @@ use Rattle.sync_rules.specs.Rules.{last_osc}
 use Rattle.dts_program.specs.declared.node.Node.{Node}
 use Rattle.dts_program.specs.declared.replay.Replay.{Replay}
 use Rattle.dts_program.specs.Capture.{Capture, Begins, history_of}
+use Rattle.dts_program.specs.Output.{output_of}
 
 -- the state has what the rules select from the history
 pub record StandsFor (node : Node) (history : History) : Type 0 where
@@ -39,3 +40,17 @@ IsStanding replay = (rates : Rates) × (texts : List (List ℕ)) × (capture : O
 abbrev pub logged : Option Action → List ℕ
 logged None = []
 logged (Some action) = log_text action
+
+-- the state after one more line, with this node
+abbrev pub after_line : Replay → Option Node → Replay
+after_line replay node = record { rates = replay.rates; lines = replay.lines + 1; node = node }
+
+-- the lines were taken: they begin a capture whose log has the text of the action more than that of the capture before
+pub record Took (rates : Rates) (replay : Replay) (texts : List (List ℕ)) (capture : Option Capture) (action : Option Action) : Type 0 where
+  pub more : Option Capture
+  pub stands : StandsAt rates replay texts more
+  pub log : output_of rates more ≡ output_of rates capture ++ logged action
+
+-- no capture begins with these lines and then this one
+abbrev pub GoesNoFurther : List (List ℕ) → List ℕ → Type 0
+GoesNoFurther texts text = (more : Option Capture) → Begins (texts ++ text ∷ []) more → ⊥

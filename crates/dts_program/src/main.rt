@@ -1,14 +1,92 @@
 //! The program of the time service: its commands over the outside that is handed in.
 #![tactic(auto)]
 
+ghost use Rattle.std.specs.Prelude.{◌≡◌, IfOk, vec_len};
+
+mod command;
 mod lines;
 mod node;
+mod outside;
+mod reader;
 mod replay;
 mod status;
 
-use crate::status::{SinkName, SourceName, Status};
-use std::io;
+use crate::outside::{Outside, ServeSide, run};
+use crate::status::Status;
+use dts_base::{MemoryLink, MemoryOscillator, MemorySink, MemoryWords, NoMemory};
+use dts_edge::{FileSource, ReaderSource, WriterSink};
+use std::alloc::Global;
+use std::io::{Stdin, Stdout};
+use std::process::ExitCode;
+use std::{env, io};
 
-fn main(rt: HostRuntime) -> io::Result<()> {
-    println!(rt; "{}", Status::Done.number())
+/// The roster file, in the current folder.
+const ROSTER: &str = "dts.toml";
+
+type Side = ServeSide<MemorySink, MemoryLink, MemoryOscillator>;
+
+// A serve side in memory.
+fn side(alloc: Global) -> Result<Side, NoMemory> {
+    Ok(ServeSide {
+        link: MemoryLink::new(alloc),
+        osc: MemoryOscillator::new(),
+        capture: MemorySink::new(alloc, &[])?,
+        log: MemorySink::new(alloc, &[])?,
+    })
+}
+
+// The four serve sides.
+fn sides(alloc: Global) -> Result<Vec<Side>, NoMemory>
+    ensures four { IfOk result (λ sides. vec_len sides ≡ 4) }
+{
+    let mut sides = Vec::new(alloc);
+    for _ in 0..4 {
+        sides.push(side(alloc)?)?;
+    }
+    Ok(sides)
+}
+
+// The words after the program's name.
+fn words(rt: &HostRuntime) -> io::Result<Vec<String>> {
+    let words = env::args(rt)?.skip(1).collect(rt.alloc())?;
+    Ok(words)
+}
+
+/// The real standard streams and roster file, and all else in memory.
+type Real<'a> = Outside<
+    ReaderSource<Stdin>,
+    FileSource<'a, HostRuntime>,
+    WriterSink<Stdout>,
+    MemorySink,
+    MemoryLink,
+    MemoryOscillator,
+    MemoryWords,
+>;
+
+fn real_outside(rt: &HostRuntime) -> Result<Real<'_>, NoMemory>
+    ensures four { IfOk result (λ out. vec_len out.serve ≡ 4) }
+{
+    let alloc = rt.alloc();
+    Ok(Outside {
+        input: ReaderSource::new(rt.stdin()),
+        roster_file: FileSource::new(rt, ROSTER),
+        output: WriterSink::new(rt.stdout()),
+        sync_capture: MemorySink::new(alloc, &[])?,
+        sync_link: MemoryLink::new(alloc),
+        sync_osc: MemoryOscillator::new(),
+        random: MemoryWords::new(),
+        serve: sides(alloc)?,
+    })
+}
+
+fn main(rt: HostRuntime) -> ExitCode {
+    let status = match (words(&rt), real_outside(&rt)) {
+        (Ok(words), Ok(mut out)) => run(&rt, rt.alloc(), words.as_slice(), &mut out),
+        (Err(_), _) => Status::Usage,
+        (_, Err(NoMemory)) => Status::NoMemory,
+    };
+    if status != Status::Done {
+        let _ = eprintln!(rt; "{status}");
+    }
+    ExitCode::from(status.number())
 }

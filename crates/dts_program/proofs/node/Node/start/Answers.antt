@@ -9,7 +9,7 @@ pub returns-clause-stands : goal.returns-clause-stands
 unfolding current_record last_osc
 returns-clause-stands c = record {
   rates = refl;
-  current = c.start-current.ensures.record ∙ ap (λ v. started c.args.osc v c.args.first) (to_z-of_z w64 c.args.value c.ranges.value);
+  current = c.start-current.ensures.made ∙ ap (λ v. started c.args.osc v c.args.first) (to_z-of_z w64 c.args.value c.ranges.value);
   last = refl;
   sound = c.start-current.ensures.sound c.args.rates;
 }

@@ -11,10 +11,10 @@ pub returns-clause-action : goal.returns-clause-action
 returns-clause-action c = λ h stands.
     let is : event.Read c.osc_of-osc.result ≡ c.args.event = ap event.Read c.osc_of-osc.ensures ∙ read_eta c.args.event in
     subst (λ (e : Event). actions_of h e ≡ action.Log (record { osc = c.osc_of-osc.result; peer = None; kind = c.read-kind.result }) ∷ []) is
-        (read_gives c.args.self.now c.read-kind.new.self h c.osc_of-osc.result c.read-kind.result stands (record { live = c.read-kind.ensures.live; regressed = c.read-kind.ensures.regressed }))
+    (read_gives c.args.self.now c.read-kind.new.self h c.osc_of-osc.result c.read-kind.result stands (record { live = c.read-kind.ensures.live; regressed = c.read-kind.ensures.regressed }))
 
 pub returns-clause-stands : goal.returns-clause-stands
 returns-clause-stands c = λ h stands.
     let is : event.Read c.osc_of-osc.result ≡ c.args.event = ap event.Read c.osc_of-osc.ensures ∙ read_eta c.args.event in
     subst (λ (e : Event). StandsFor c.read-kind.new.self (followed_by h e)) is
-        (read_stands c.args.self.now c.read-kind.new.self h c.osc_of-osc.result c.read-kind.result stands (record { live = c.read-kind.ensures.live; regressed = c.read-kind.ensures.regressed }))
+    (read_stands c.args.self.now c.read-kind.new.self h c.osc_of-osc.result c.read-kind.result stands (record { live = c.read-kind.ensures.live; regressed = c.read-kind.ensures.regressed }))

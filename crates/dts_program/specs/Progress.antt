@@ -1,0 +1,88 @@
+-- How far a replay has come, and what it wrote. Our own choice.
+use Rattle.std.specs.Prelude.{◌≡◌, ◌⊎◌, ℕ, ◌≤◌, List, ◌++◌, Option, Some, Result, MatchResult, IfOk, IsErrOf}
+use Rattle.dts_base.specs.Causes.{Rose}
+use Rattle.dts_base.specs.Streams.{BeginsWith}
+use Rattle.slew_clock.specs.declared.rates.Rates.{Rates}
+use Rattle.dts_program.specs.Lines.{IsLine, AreLines, with_feeds}
+use Rattle.dts_program.specs.Capture.{Capture}
+use Rattle.dts_program.specs.Output.{output_of, Stops, Replays, Wrote}
+use Rattle.dts_program.specs.Standing.{StandsAt}
+use Rattle.dts_program.specs.declared.replay.Replay.{Replay}
+use Rattle.dts_program.specs.declared.status.Status.{Status}
+use Rattle.dts_program.specs.declared.status.Status.TheVariants as status
+use Rattle.dts_program.specs.declared.status.SourceName.{SourceName}
+use Rattle.dts_program.specs.declared.status.SinkName.{SinkName}
+use Rattle.dts_program.specs.declared.status.SourceName.TheVariants as source
+use Rattle.dts_program.specs.declared.status.SinkName.TheVariants as sink
+
+-- a call that writes fails for want of memory or for a fault of the output
+abbrev pub IsWriteEnd : Status → Type 0
+IsWriteEnd s = (s ≡ status.NoMemory) ⊎ (s ≡ status.WriteFault sink.Output)
+
+-- a part of the text was written, from its beginning
+abbrev pub WrotePart : Option (List ℕ) → Option (List ℕ) → List ℕ → Type 0
+WrotePart before now text = (part : List ℕ) × BeginsWith part text × Wrote before now part
+
+-- the count did not fall, and the call answers a fault of a sink only where it is the output, whose count rose
+pub record WriteCause {T : Type 0} (before now : ℕ) (result : Result T Status) : Type 0 where
+  pub later : before ≤ now
+  pub failed : (which : SinkName) → IsErrOf result (status.WriteFault which) → (which ≡ sink.Output) × Rose before now
+
+-- a call that only takes lines answers no fault of a source either, and no status that is an end
+pub record TakeCause {T : Type 0} (before now : ℕ) (result : Result T Status) : Type 0 where
+  pub later : before ≤ now
+  pub failed : (which : SinkName) → IsErrOf result (status.WriteFault which) → (which ≡ sink.Output) × Rose before now
+  pub no_read : (which : SourceName) → IsErrOf result (status.ReadFault which) → ⊥
+  pub not_done : IsErrOf result status.Done → ⊥
+  pub not_usage : IsErrOf result status.Usage → ⊥
+
+-- the count did not fall, and the call answers a fault of a source only where it is the input, whose count rose
+pub record ReadCause {T : Type 0} (before now : ℕ) (result : Result T Status) : Type 0 where
+  pub later : before ≤ now
+  pub failed : (which : SourceName) → IsErrOf result (status.ReadFault which) → (which ≡ source.Input) × Rose before now
+  pub not_done : IsErrOf result status.Done → ⊥
+  pub not_usage : IsErrOf result status.Usage → ⊥
+
+-- The replay has taken these lines, and their log was written since the sink told `before`.
+pub record Stands (rates : Rates) (texts : List (List ℕ)) (replay : Replay) (before now : Option (List ℕ)) : Type 0 where
+  pub capture : Option Capture
+  pub at : StandsAt rates replay texts capture
+  pub wrote : Wrote before now (output_of rates capture)
+
+-- reading these lines stopped with this status, and so much was written since the sink told `before`
+pub record HasStopped (rates : Rates) (texts : List (List ℕ)) (s : Status) (before now : Option (List ℕ)) : Type 0 where
+  pub text : List ℕ
+  pub stops : Stops rates texts s text
+  pub wrote : Wrote before now text
+
+-- the replay has taken these lines, or stopped among them
+abbrev pub Goes : {T : Type 0} → Rates → List (List ℕ) → Replay → Option (List ℕ) → Option (List ℕ) → Result T Status → Type 0
+Goes rates texts replay before now result = MatchResult result (λ _. Stands rates texts replay before now) (λ s. HasStopped rates texts s before now)
+
+-- a replay of these lines answers this status, and so much was written since the sink told `before`
+pub record HasReplayed (rates : Rates) (texts : List (List ℕ)) (s : Status) (before now : Option (List ℕ)) : Type 0 where
+  pub text : List ℕ
+  pub replays : Replays rates texts s text
+  pub wrote : Wrote before now text
+
+-- the lines are all, and the replay is done or stopped
+abbrev pub Finishes : {T : Type 0} → Rates → List (List ℕ) → Option (List ℕ) → Option (List ℕ) → Result T Status → Type 0
+Finishes rates texts before now result = MatchResult result (λ _. HasReplayed rates texts status.Done before now) (λ s. HasReplayed rates texts s before now)
+
+-- Of these octets the whole lines were taken, or the replay stopped among them; at the end `left` has what is left.
+pub record Takes {T : Type 0} (octets : List ℕ) (left : T → List ℕ) (old new : Replay) (told_old told_new : Option (List ℕ)) (result : Result T Status) : Type 0 where
+  pub taken : List (List ℕ)
+  pub rest : List ℕ
+  pub are : AreLines taken
+  pub all : octets ≡ with_feeds taken ++ rest
+  pub left_is : IfOk result (λ x. (left x ≡ rest) × IsLine rest)
+  pub goes : (rates : Rates) (texts : List (List ℕ)) (before : Option (List ℕ)) → Stands rates texts old before told_old → Goes rates (texts ++ taken) new before told_new result
+
+-- Of these octets the lines were taken up to the last line feed that was read, behind which stands `pending`; the source tells the rest.
+pub record HasRead (rates : Rates) (octets pending : List ℕ) (replay : Replay) (before now left : Option (List ℕ)) : Type 0 where
+  pub taken : List (List ℕ)
+  pub more : List ℕ
+  pub are : AreLines taken
+  pub stands : Stands rates taken replay before now
+  pub left_is : left ≡ Some more
+  pub all : octets ≡ with_feeds taken ++ (pending ++ more)
