@@ -125,3 +125,101 @@ impl fmt::Display for LineFields {
         write!(f, "{from} {value} {x} {next} {next_x}")
     }
 }
+
+#[cfg(test)]
+mod tests {
+    use super::*;
+    use std::test::Fail;
+
+    const FIRST: ClockRecord = ClockRecord {
+        number: 0,
+        step: 0,
+        born: 0,
+        anchor: Some(Anchor {
+            osc: 0,
+            lo: 999_000,
+            hi: 1_001_000,
+        }),
+        a: PartA {
+            from: 0,
+            value: 1_000_000,
+            x: 0,
+        },
+        b: PartB { from: 0, x: 0 },
+    };
+
+    fn reading(inaccuracy: Option<u64>) -> Action {
+        Action::Log {
+            note: Note {
+                osc: 10_000_000,
+                peer: None,
+                kind: NoteKind::Reading {
+                    value: 11_000_000,
+                    inaccuracy,
+                    step: 3,
+                    number: 4,
+                },
+            },
+        }
+    }
+
+    fn regressed(peer: Option<u32>) -> Action {
+        Action::Log {
+            note: Note {
+                osc: 99,
+                peer,
+                kind: NoteKind::Regressed { floor: 100 },
+            },
+        }
+    }
+
+    #[test]
+    fn each_action_has_its_line(rt: HostRuntime) -> Result<(), Fail> {
+        let unknown = ClockRecord {
+            anchor: None,
+            ..FIRST
+        };
+        let slewed = ClockRecord {
+            number: 3,
+            step: 1,
+            born: 80_000_000,
+            a: PartA {
+                from: 80_000_000,
+                value: 81_600_000,
+                x: -400_000,
+            },
+            b: PartB {
+                from: 120_000_000,
+                x: -200_000,
+            },
+            ..FIRST
+        };
+        let lines = [
+            (
+                Action::Publish { rec: FIRST },
+                "record 0 0 0 0 999000 1001000 0 1000000 0 0 0\n",
+            ),
+            (
+                Action::Publish { rec: unknown },
+                "record 0 0 0 - - - 0 1000000 0 0 0\n",
+            ),
+            (
+                Action::Publish { rec: slewed },
+                "record 3 1 80000000 0 999000 1001000 80000000 81600000 -400000 120000000 -200000\n",
+            ),
+            (reading(Some(2_001)), "reading 10000000 11000000 2001 3 4\n"),
+            (reading(None), "reading 10000000 11000000 - 3 4\n"),
+            (regressed(None), "note 99 - regressed 100\n"),
+            (regressed(Some(1_004)), "note 99 1004 regressed 100\n"),
+        ];
+        let mut log = String::new(rt.alloc());
+        let mut all = String::new(rt.alloc());
+        for (action, line) in lines {
+            assert_eq!(rt; print_action(rt.alloc(), &action)?.as_str(), line);
+            append_action(&mut log, &action)?;
+            all.push_str(line)?;
+        }
+        assert_eq!(rt; log.as_str(), all.as_str());
+        Ok(())
+    }
+}
