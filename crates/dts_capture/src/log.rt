@@ -10,7 +10,14 @@ use std::fmt;
 /// A log line has mostly fewer octets than this.
 const USUAL_LENGTH: usize = 160;
 
-/// The log line of an action, with its line feed.
+/// The log line of an action, with its line feed. Our own choice.
+///
+/// A line is its fields joined by single spaces, numbers in decimal, times and lengths of time in units of
+/// 100 ns:
+/// `record NUMBER STEP BORN AOSC LO HI AFROM AVALUE AX BFROM BX`, with `- - -` in the place of AOSC, LO and
+/// HI where there is no anchor; `reading OSC VALUE INACC STEP NUMBER`, with `-` for an unspecified
+/// inaccuracy; `note OSC PEER regressed FLOOR`, with `-` where there is no peer. The only error is that no
+/// memory was found.
 pub fn print_action(alloc: Global, action: &Action) -> Result<String, NoMemory>
     ensures text { IfOk result (λ line. string_bytes line ≡ log_text action.now) }
 {
@@ -19,7 +26,8 @@ pub fn print_action(alloc: Global, action: &Action) -> Result<String, NoMemory>
     Ok(line)
 }
 
-/// Puts the log line of an action, with its line feed, at the end of a log.
+/// Puts the line that `print_action` gives at the end of a log, which may be a buffer that is used again.
+/// The only error is that no memory was found: what the log holds then is left open, so drop or clear it.
 pub fn append_action(log: &mut String, action: &Action) -> Result<(), NoMemory>
     ensures text { OnOk result (string_bytes log.new ≡ string_bytes log.old ++ log_text action.now) }
 {
@@ -41,8 +49,8 @@ fn append_record(log: &mut String, rec: &ClockRecord) -> Result<(), NoMemory>
         b,
     } = *rec;
     let anchor = AnchorFields(anchor);
-    let line = LineFields(a, b);
-    writeln!(log, "record {number} {step} {born} {anchor} {line}")?;
+    let parts = PartsFields(a, b);
+    writeln!(log, "record {number} {step} {born} {anchor} {parts}")?;
     Ok(())
 }
 
@@ -107,14 +115,14 @@ impl fmt::Display for AnchorFields {
 
 /// Where each part of a clock's line begins and how far it slews, the first with its value.
 #[derive(Clone, Copy)]
-struct LineFields(PartA, PartB);
+struct PartsFields(PartA, PartB);
 
-impl fmt::Display for LineFields {
+impl fmt::Display for PartsFields {
     ghost use Rattle.std.specs.Prelude.{Some};
     ghost use Rattle.dts_capture.specs.Fields.{text_of};
-    ghost use Rattle.dts_capture.specs.Log.{line_fields};
+    ghost use Rattle.dts_capture.specs.Log.{parts_fields};
 
-    ghost output = { λ l. Some (text_of (line_fields l.0 l.1)) };
+    ghost output = { λ l. Some (text_of (parts_fields l.0 l.1)) };
 
     fn fmt<W: fmt::Write>(&self, f: &mut fmt::Formatter<W>) -> fmt::Result {
         let PartA { from, value, x } = self.0;

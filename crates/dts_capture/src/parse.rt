@@ -20,8 +20,9 @@ const MAX_OSC: u64 = 1 << 60;
 ///
 /// A line is empty, or a comment that begins with `#`, or its fields joined by single spaces:
 /// `start OSC VALUE LO HI`, `start OSC VALUE unknown` or `read OSC`, in decimal numbers without signs and
-/// without leading zeros. OSC is at most 2^60, VALUE, LO and HI are time counts of 0 to 2^61, and LO is at
-/// most HI. A line has at most 16,384 octets, a comment too. Any other line is refused at column 1.
+/// without leading zeros. All numbers are in units of 100 ns: OSC is an oscillator reading of at most 2^60,
+/// VALUE, LO and HI are time counts of 0 to 2^61, and LO is at most HI. A line has at most 16,384 octets, a
+/// comment too. Any other line is refused with column 1 and the cause `Word`.
 pub fn parse_line(line: &[u8]) -> Result<Line, LineFault>
     ensures found { IfOk result (Spells line.now) }
     ensures only { IfErr result (λ fault. (l : Line) → Spells line.now l → ⊥) }
