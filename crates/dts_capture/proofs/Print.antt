@@ -8,14 +8,14 @@ use Rattle.slew_clock.specs.declared.record.ClockRecord.{ClockRecord}
 use Rattle.dts_capture.specs.Fields.{text_of, number_or_dash}
 use Rattle.dts_capture.specs.declared.action.NoteKind.{NoteKind}
 use Rattle.dts_capture.specs.declared.action.NoteKind.TheVariants as kind
-use Rattle.dts_capture.specs.Log.{anchor_fields, line_fields, record_fields, note_fields}
+use Rattle.dts_capture.specs.Log.{anchor_fields, parts_fields, record_fields, note_fields}
 
-by_anchor : (n s b : List ℕ) (a : Option Anchor) (p : PartA) (q : PartB) → text_of (codes "record" ∷ n ∷ s ∷ b ∷ anchor_fields a ++ line_fields p q) ++ 10 ∷ [] ≡ codes "record " ++ (n ++ (32 ∷ (s ++ (32 ∷ (b ++ (32 ∷ (text_of (anchor_fields a) ++ (32 ∷ (text_of (line_fields p q) ++ 10 ∷ [])))))))))
+by_anchor : (n s b : List ℕ) (a : Option Anchor) (p : PartA) (q : PartB) → text_of (codes "record" ∷ n ∷ s ∷ b ∷ anchor_fields a ++ parts_fields p q) ++ 10 ∷ [] ≡ codes "record " ++ (n ++ (32 ∷ (s ++ (32 ∷ (b ++ (32 ∷ (text_of (anchor_fields a) ++ (32 ∷ (text_of (parts_fields p q) ++ 10 ∷ [])))))))))
 by_anchor n s b None p q = simp append_assoc
 by_anchor n s b (Some a) p q = simp append_assoc
 
 -- the line of a record, its pieces in order
-pub record_line : (r : ClockRecord) → text_of (record_fields r) ++ 10 ∷ [] ≡ codes "record " ++ (decimal r.number ++ (32 ∷ (decimal r.step ++ (32 ∷ (decimal r.born ++ (32 ∷ (text_of (anchor_fields r.anchor) ++ (32 ∷ (text_of (line_fields r.a r.b) ++ 10 ∷ [])))))))))
+pub record_line : (r : ClockRecord) → text_of (record_fields r) ++ 10 ∷ [] ≡ codes "record " ++ (decimal r.number ++ (32 ∷ (decimal r.step ++ (32 ∷ (decimal r.born ++ (32 ∷ (text_of (anchor_fields r.anchor) ++ (32 ∷ (text_of (parts_fields r.a r.b) ++ 10 ∷ [])))))))))
 record_line r = by_anchor (decimal r.number) (decimal r.step) (decimal r.born) r.anchor r.a r.b
 
 -- a peer's number that was widened

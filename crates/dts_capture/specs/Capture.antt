@@ -22,10 +22,12 @@ abbrev pub first_fields : Option Interval → List (List ℕ)
 first_fields None = codes "unknown" ∷ []
 first_fields (Some first) = signed_decimal first.lo ∷ signed_decimal first.hi ∷ []
 
+-- both ends of the first interval are time counts
 abbrev pub IsFirst : Option Interval → Type 0
 IsFirst None = ⊤
 IsFirst (Some first) = IsCount first.lo × IsCount first.hi
 
+-- the fields of an event
 abbrev pub event_fields : Event → List (List ℕ)
 event_fields (event.Read osc) = codes "read" ∷ decimal osc ∷ []
 

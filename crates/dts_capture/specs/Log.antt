@@ -17,12 +17,12 @@ anchor_fields None = codes "-" ∷ codes "-" ∷ codes "-" ∷ []
 anchor_fields (Some anchor) = decimal anchor.osc ∷ signed_decimal anchor.lo ∷ signed_decimal anchor.hi ∷ []
 
 -- where each part of the clock's line begins and how far it slews, the first with its value
-abbrev pub line_fields : PartA → PartB → List (List ℕ)
-line_fields a b = decimal a.from ∷ signed_decimal a.value ∷ signed_decimal a.x ∷ decimal b.from ∷ signed_decimal b.x ∷ []
+abbrev pub parts_fields : PartA → PartB → List (List ℕ)
+parts_fields a b = decimal a.from ∷ signed_decimal a.value ∷ signed_decimal a.x ∷ decimal b.from ∷ signed_decimal b.x ∷ []
 
 -- a record's number, its step number and where it was born, then the anchor and the line
 abbrev pub record_fields : ClockRecord → List (List ℕ)
-record_fields r = codes "record" ∷ decimal r.number ∷ decimal r.step ∷ decimal r.born ∷ anchor_fields r.anchor ++ line_fields r.a r.b
+record_fields r = codes "record" ∷ decimal r.number ∷ decimal r.step ∷ decimal r.born ∷ anchor_fields r.anchor ++ parts_fields r.a r.b
 
 -- a note of an event at osc, of the peer
 abbrev pub note_fields : ℕ → Option ℕ → NoteKind → List (List ℕ)
@@ -31,6 +31,7 @@ note_fields osc peer (kind.Reading value inaccuracy step number) =
 note_fields osc peer (kind.Regressed floor) =
     codes "note" ∷ decimal osc ∷ number_or_dash peer ∷ codes "regressed" ∷ decimal floor ∷ []
 
+-- the fields of an action's line
 abbrev pub action_fields : Action → List (List ℕ)
 action_fields (action.Publish r) = record_fields r
 action_fields (action.Log note) = note_fields note.osc note.peer note.kind

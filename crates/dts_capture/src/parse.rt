@@ -20,8 +20,9 @@ const MAX_OSC: u64 = 1 << 60;
 ///
 /// A line is empty, or a comment that begins with `#`, or its fields joined by single spaces:
 /// `start OSC VALUE LO HI`, `start OSC VALUE unknown` or `read OSC`, in decimal numbers without signs and
-/// without leading zeros. OSC is at most 2^60, VALUE, LO and HI are time counts of 0 to 2^61, and LO is at
-/// most HI. A line has at most 16,384 octets, a comment too. Any other line is refused at column 1.
+/// without leading zeros. All numbers are in units of 100 ns: OSC is an oscillator reading of at most 2^60,
+/// VALUE, LO and HI are time counts of 0 to 2^61, and LO is at most HI. A line has at most 16,384 octets, a
+/// comment too. Any other line is refused with column 1 and the cause `Word`.
 pub fn parse_line(line: &[u8]) -> Result<Line, LineFault>
     ensures found { IfOk result (Spells line.now) }
     ensures only { IfErr result (λ fault. (l : Line) → Spells line.now l → ⊥) }
@@ -123,4 +124,125 @@ fn read(fields: &mut Fields) -> Option<Line>
         at: None,
         event: Event::Read { osc },
     })
+}
+
+#[cfg(test)]
+mod tests {
+    use super::*;
+    use std::test::Fail;
+
+    fn reads(osc: u64) -> Line {
+        Line::Event {
+            at: None,
+            event: Event::Read { osc },
+        }
+    }
+
+    #[test]
+    fn right_lines_are_read(rt: HostRuntime) -> Result<(), Fail> {
+        let known = Line::Start {
+            osc: 0,
+            value: 1_000_000,
+            first: Some(Interval {
+                lo: 999_000,
+                hi: 1_001_000,
+            }),
+        };
+        let unknown = Line::Start {
+            osc: 7,
+            value: 2_305_843_009_213_693_952,
+            first: None,
+        };
+        let lines: [(&str, Line); 10] = [
+            ("", Line::Blank),
+            ("#", Line::Blank),
+            ("# start \r\0\u{e9}", Line::Blank),
+            ("start 0 1000000 999000 1001000", known),
+            ("start 7 2305843009213693952 unknown", unknown),
+            ("read 0", reads(0)),
+            ("read 10", reads(10)),
+            ("read 10000000", reads(10_000_000)),
+            ("read 1152921504606846975", reads(1_152_921_504_606_846_975)),
+            ("read 1152921504606846976", reads(1_152_921_504_606_846_976)),
+        ];
+        for (text, line) in lines {
+            assert_eq!(rt; parse_line(text.as_bytes()), Ok(line), "{text}");
+        }
+        Ok(())
+    }
+
+    #[test]
+    fn other_lines_are_refused_at_column_1(rt: HostRuntime) -> Result<(), Fail> {
+        let lines: [&str; 36] = [
+            " ",
+            " #",
+            "read",
+            "read ",
+            "reads 5",
+            "Read 5",
+            "read  5",
+            " read 5",
+            "read 5 ",
+            "read 5 6",
+            "read 5\r",
+            "read 5\n",
+            "read\t5",
+            "read 5\0",
+            "read \u{e9}",
+            "read 05",
+            "read 00",
+            "read +5",
+            "read -5",
+            "read -0",
+            "read 0x5",
+            "read 5 #",
+            "read 1152921504606846977",
+            "read 99999999999999999999999999999999999999",
+            "start",
+            "start 0 5",
+            "start 0 5 unknown x",
+            "start 0 5 unknown ",
+            "start 0 5 Unknown",
+            "start 0 unknown unknown",
+            "start 0 5 5",
+            "start 0 5 7 6",
+            "start 0 5 5 5 5",
+            "start 0 2305843009213693953 unknown",
+            "start 0 5 5 2305843009213693953",
+            "tick 0 0000000000000001",
+        ];
+        let refused = LineFault {
+            column: 1,
+            cause: LineCause::Word,
+        };
+        for text in lines {
+            assert_eq!(rt; parse_line(text.as_bytes()), Err(refused), "{text:?}");
+        }
+        assert_eq!(rt; parse_line(b"read \xff5"), Err(refused));
+        assert_eq!(rt;
+            refused.to_string(rt.alloc())?.as_str(),
+            "column 1: no such line"
+        );
+        Ok(())
+    }
+
+    #[test]
+    fn a_line_has_at_most_16384_octets(rt: HostRuntime) -> Result<(), Fail> {
+        for (length, fits) in [(16_383, true), (16_384, true), (16_385, false)] {
+            let comment = vec![in rt.alloc(); b'#'; length]?;
+            assert_eq!(rt; parse_line(&comment).is_ok(), fits, "{length}");
+            let spaces = vec![in rt.alloc(); b' '; length]?;
+            assert!(rt; parse_line(&spaces).is_err(), "{length}");
+            let digits = vec![in rt.alloc(); b'9'; length]?;
+            let mut read = Vec::from_slice(rt.alloc(), b"read ")?;
+            read.extend_from_slice(&digits)?;
+            assert!(rt; parse_line(&read).is_err(), "{length}");
+        }
+        Ok(())
+    }
+
+    #[test]
+    fn the_law_has_no_effect() {
+        one_value();
+    }
 }
