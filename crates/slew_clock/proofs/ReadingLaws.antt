@@ -89,3 +89,15 @@ interval_within r rec o i s born small h =
     let hi : i.1 ≡ a.hi +ℤ pos (most r (o - a.osc)) = ap (λ p. p.1) found.2 in
     let resolution = r.resolution_in_range in
     (omega (arith, ints, lo, good.from), omega (arith, ints, lo, hi, good.ordered, low, high), omega (arith, ints, hi, good.to, good.before, drift, resolution))
+
+-- an answer that held true time at some moment between asking and coming holds it when it is carried on, where at least
+-- `least` passed since it came and at most `most` since it was asked for
+pub carried_contains : (r : Rates) (lo hi : ℤ) (asked got now : ℕ) (at_asking at_coming t : ℤ) → lo ≤ℤ at_coming → at_asking ≤ℤ hi → (at_coming +ℤ pos (least r (now - got))) ≤ℤ t → t ≤ℤ (at_asking +ℤ pos (most r (now - asked))) → ((carried r lo hi asked got now).0 ≤ℤ t) × (t ≤ℤ (carried r lo hi asked got now).1)
+carried_contains r lo hi asked got now at_asking at_coming t from to late early =
+    (omega (arith, ints, from, late), omega (arith, ints, to, early))
+
+-- where the anchor held true time, and at least `least` and at most `most` passed since, the reading's inaccuracy holds
+pub reading_holds : (r : Rates) (rec : ClockRecord) (o i : ℕ) (a : Anchor) (then t : ℤ) → rec.anchor ≡ Some a → inaccuracy_of r rec o ≡ Some i → a.lo ≤ℤ then → then ≤ℤ a.hi → (then +ℤ pos (least r (o - a.osc))) ≤ℤ t → t ≤ℤ (then +ℤ pos (most r (o - a.osc))) → ((line r rec o -ℤ pos i) ≤ℤ t) × (t ≤ℤ (line r rec o +ℤ pos i))
+reading_holds r rec o i a then t is specified_so from to late early =
+    let on = carried_contains r a.lo a.hi a.osc a.osc o then then t from to late early in
+    reading_contains r rec o i (carried r a.lo a.hi a.osc a.osc o).0 (carried r a.lo a.hi a.osc a.osc o).1 t specified_so (interval-some r rec o a is) on.0 on.1

@@ -41,7 +41,6 @@ pub started_interval-some : (r : Rates) (osc : ℕ) (value : ℤ) (i : Interval)
 started_interval-some r osc value i o = interval-some r (started osc value (Some i)) o (record { osc = osc; lo = i.lo; hi = i.hi }) refl
 
 -- a started record is sound for all rates
-
 pub started_sound : (r : Rates) (osc : ℕ) (value : ℤ) (first : Option Interval) → osc ≤ 2 ^ 60 → pos 0 ≤ℤ value → value ≤ℤ pos (2 ^ 61) → StartsWithin first → IsSound r (started osc value first)
 started_sound r osc value first h from to within = record {
   begun = omega arith;

@@ -5,6 +5,7 @@ use crate::{
     Anchor, ClockRecord, PartA, PartB, RateRange, Rates, Regressed, interval_at, read_at, start,
 };
 use dts_base::Interval;
+use std::alloc::AllocError;
 
 #[test]
 fn a_reading_follows_the_line_and_past_its_end_stands_still(rt: HostRuntime) {
@@ -153,4 +154,21 @@ fn rates_are_refused_at_the_first_argument_out_of_its_range(rt: HostRuntime) {
             "at {rates:?}"
         );
     }
+}
+
+#[test]
+fn faults_have_their_texts(rt: HostRuntime) -> Result<(), AllocError> {
+    let text = format!(in rt.alloc(); "{}", RateRange { which: 2 })?;
+    assert_eq!(rt; text.as_str(), "rate 2 is out of its range");
+    let regressed = Regressed {
+        floor: 100,
+        osc: 99,
+        number: 3,
+    };
+    let text = format!(in rt.alloc(); "{regressed}")?;
+    assert_eq!(rt;
+        text.as_str(),
+        "the oscillator reads 99, below 100, at record 3"
+    );
+    Ok(())
 }
