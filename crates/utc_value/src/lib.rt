@@ -15,6 +15,9 @@ use byteorder::{ByteOrder, LittleEndian};
 use std::marker::Model;
 use thiserror::Error;
 
+#[cfg(test)]
+mod tests;
+
 /// The greatest inaccuracy that can be stated, in units of 100 ns: 2^48 − 2, about 326 days.
 pub const MAX_INACCURACY: u64 = 281_474_976_710_654;
 
