@@ -16,6 +16,9 @@ pub use arithmetic::{abs, add, mul, sub, with_tdf};
 pub use comparison::{cmp_interval, cmp_mid};
 pub use intervals::{bound, point, span};
 
+#[cfg(test)]
+mod tests;
+
 /// Why a routine has no result.
 #[derive(Clone, Copy, Debug, PartialEq, Eq, Error)]
 pub enum UtcFault {
