@@ -4,7 +4,8 @@ use Rattle.std.proofs.lemmas.Int.{ints, clamps}
 use Rattle.std.proofs.lemmas.Bool.{cases_cond}
 use Rattle.std.specs.Int.{int_div_euclid, int_min, int_max}
 use Rattle.utc_value.specs.Stamp.{Stamp}
-use Rattle.utc_routines.specs.Formula.{AreEnds, IsHalf, IsSmall}
+use Rattle.utc_routines.specs.Formula.{AreEnds, IsSmall}
+use Rattle.utc_routines.specs.Interval.{IsHalf}
 use Rattle.utc_routines.specs.Interval.{HoldsAll, is_either_unspecified, stated}
 use Rattle.utc_routines.specs.Tightest.{IsTightest, StatesTightest, IsMemberOfEither, IsOuterPoint, IsSpan, IsBound, IsOutOfOrder}
 use Rattle.utc_routines.proofs.EndsLemmas.{member_within, member_low, member_high, low_is_earliest, high_is_latest, earliest_is_low, latest_is_high, both_specified, ends_specified}

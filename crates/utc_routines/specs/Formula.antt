@@ -16,11 +16,6 @@ abbrev pub multiplied : Option ℕ → ℤ → Option ℕ
 multiplied None k = None
 multiplied (Some i) k = stated (i * unsigned_abs k)
 
--- t is half of n, rounded toward the lesser
-pub record IsHalf (n t : ℤ) : Type 0 where
-  pub low : (t +ℤ t) ≤ℤ n
-  pub high : n <ℤ (t +ℤ t +ℤ pos 2)
-
 -- x is less than 66 bits long, so that sums of a few of them fit 128
 abbrev pub IsSmall : ℤ → Type 0
 IsSmall x = (neg_ℤ (pos (2 ^ 65)) ≤ℤ x) × (x ≤ℤ pos (2 ^ 65))

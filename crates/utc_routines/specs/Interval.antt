@@ -1,5 +1,5 @@
 -- Intervals of whole times, and the least one that holds a set of them. A set of times is a fact of a time.
-use Rattle.std.specs.Prelude.{◌≡◌, ℕ, ◌-◌, ◌^◌, nat_le, ℤ, pos, ◌+ℤ◌, ◌-ℤ◌, ◌≤ℤ◌, Bool, true, false, ◌||◌, is_none, if◌then◌else◌, Option, Some, None}
+use Rattle.std.specs.Prelude.{◌≡◌, ℕ, ◌-◌, ◌^◌, nat_le, ℤ, pos, ◌+ℤ◌, ◌-ℤ◌, ◌≤ℤ◌, ◌<ℤ◌, Bool, true, false, ◌||◌, is_none, if◌then◌else◌, Option, Some, None}
 use Rattle.utc_value.specs.Stamp.{Stamp}
 use Rattle.utc_value.specs.Members.{IsMember}
 
@@ -24,6 +24,11 @@ is_either_unspecified a b = is_none a.inaccuracy || is_none b.inaccuracy
 abbrev pub StatesLeast : Bool → (ℤ → Type 0) → ℤ → Option ℕ → Type 0
 StatesLeast true P t inaccuracy = inaccuracy ≡ None
 StatesLeast false P t inaccuracy = (i : ℕ) × IsLeastInterval P (t -ℤ pos i) (t +ℤ pos i) × (inaccuracy ≡ stated i)
+
+-- t is half of n, rounded toward the lesser
+pub record IsHalf (n t : ℤ) : Type 0 where
+  pub low : (t +ℤ t) ≤ℤ n
+  pub high : n <ℤ (t +ℤ t +ℤ pos 2)
 
 -- x is the first of a timestamp's members
 pub record IsEarliest (s : Stamp) (x : ℤ) : Type 0 where

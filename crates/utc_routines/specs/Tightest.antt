@@ -5,7 +5,7 @@ use Rattle.utc_value.specs.Stamp.{Stamp}
 use Rattle.utc_value.specs.Members.{IsMember}
 use Rattle.utc_routines.specs.declared.UtcFault.{UtcFault}
 use Rattle.utc_routines.specs.declared.UtcFault.TheVariants.{Kinds, Overflow, OutOfOrder, Unspecified}
-use Rattle.utc_routines.specs.Formula.{IsHalf}
+use Rattle.utc_routines.specs.Interval.{IsHalf}
 use Rattle.utc_routines.specs.Interval.{HoldsAll, IsEarliest, IsLatest, stated, is_either_unspecified}
 
 -- of all whole times t with a whole inaccuracy i whose interval holds all of P, the one of least inaccuracy, and of these the one of least time

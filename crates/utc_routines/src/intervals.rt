@@ -4,7 +4,8 @@ ghost use Rattle.std.specs.Prelude.{◌≡◌, ℕ, ℤ, pos, ◌+ℤ◌, ◌-�
 ghost use Rattle.std.specs.Int.{w64};
 ghost use Rattle.utc_value.specs.Stamp.{IsInRange, IsInaccuracy};
 ghost use Rattle.utc_routines.specs.Comparison.{RefusesUnlike};
-ghost use Rattle.utc_routines.specs.Formula.{IsHalf, IsSmall};
+ghost use Rattle.utc_routines.specs.Formula.{IsSmall};
+ghost use Rattle.utc_routines.specs.Interval.{IsHalf};
 ghost use Rattle.utc_routines.specs.Interval.{stated};
 ghost use Rattle.utc_routines.specs.Tightest.{IsSpan, IsBound, Spans, Bounds, IsOutOfOrder, RefusesBound, exact_at, ArePoints, RefusesPoints};
 

@@ -3,7 +3,8 @@
 ghost use Rattle.std.specs.Prelude.{◌≡◌, ◌≢◌, ◌+◌, ◌*◌, ◌-◌, ◌^◌, ◌<◌, ◌≤◌, ◌↔◌, ℕ, ℤ, pos, ◌+ℤ◌, ◌*ℤ◌, ◌≤ℤ◌, FitsSigned, ◌-ℤ◌, IfOk, IfErr, IfSome, OkIff, IsTrue, MatchOption};
 ghost use Rattle.std.specs.Int.{w64};
 ghost use Rattle.utc_value.specs.Stamp.{IsInRange, IsInaccuracy, IsTdfOf};
-ghost use Rattle.utc_routines.specs.Formula.{added, multiplied, AreEnds, IsHalf, IsSmall};
+ghost use Rattle.utc_routines.specs.Formula.{added, multiplied, AreEnds, IsSmall};
+ghost use Rattle.utc_routines.specs.Interval.{IsHalf};
 ghost use Rattle.utc_routines.specs.Interval.{stated, is_either_unspecified};
 
 use crate::UtcFault;

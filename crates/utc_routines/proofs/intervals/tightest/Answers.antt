@@ -1,7 +1,7 @@
 use Rattle.std.proofs.Common.{rules, arith, FitsSigned, ◌+ℤ◌, ◌-ℤ◌, ◌≤ℤ◌, nat_abs}
 use Rattle.std.proofs.lemmas.Int.{ints, to_z-of_z}
 use mir.Syntax.{w128}
-use Rattle.utc_routines.specs.Formula.{IsHalf}
+use Rattle.utc_routines.specs.Interval.{IsHalf}
 use Rattle.utc_routines.proofs.TightestLemmas.{reach_of}
 use Rattle.utc_routines.proofs.intervals.tightest.Goals as goal
 
