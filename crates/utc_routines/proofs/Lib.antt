@@ -1,0 +1,4 @@
+pub mod ComparisonLemmas
+pub mod EndsLemmas
+pub mod LeastLemmas
+pub mod TightestLemmas

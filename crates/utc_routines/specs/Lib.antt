@@ -1,0 +1,5 @@
+pub mod Arithmetic
+pub mod Comparison
+pub mod Formula
+pub mod Interval
+pub mod Tightest
