@@ -40,7 +40,7 @@ fn sides(alloc: Global) -> Result<Vec<Side>, NoMemory>
     ensures four { IfOk result (λ sides. vec_len sides ≡ 4) }
 {
     let mut sides = Vec::new(alloc);
-    for _ in 0..4 {
+    for _ in 0..4usize {
         sides.push(side(alloc)?)?;
     }
     Ok(sides)
