@@ -10,6 +10,8 @@ mod outside;
 mod reader;
 mod replay;
 mod status;
+#[cfg(test)]
+mod tests;
 
 use crate::outside::{Outside, ServeSide, run};
 use crate::status::Status;

@@ -45,8 +45,8 @@ top_reading : (h : History) (osc : ℕ) (a : Action) (shown : Shown) → Contain
 unfolding actions_of
 top_reading h osc a shown in_actions logs =
     elim (chosen (is_live h (event.Read osc)) (live_actions h (event.Read osc)) (regressed_actions h (event.Read osc)) (λ xs. Contains xs a) in_actions) [
-      inl w ↦ (w.0, subst (λ x. LogsReading x shown) (sym (only_one _ a w.1)) logs)
-    | inr w ↦ absurd (subst (λ x. LogsReading x shown) (sym (only_one _ a w.1)) logs)
+      | inl w ↦ (w.0, subst (λ x. LogsReading x shown) (sym (only_one _ a w.1)) logs)
+      | inr w ↦ absurd (subst (λ x. LogsReading x shown) (sym (only_one _ a w.1)) logs)
     ]
 
 -- the last live position of the lane falls never
@@ -54,8 +54,8 @@ last_osc_grows : (h : History) (e : Event) (actions : List Action) → last_osc 
 unfolding last_osc
 last_osc_grows h (event.Read osc) actions =
     elim (nat_le (floor_of h (event.Read osc)) osc) as (λ b. nat_le (floor_of h (event.Read osc)) osc ≡ b → last_osc (Lane 0) h ≤ cond b osc (last_osc (Lane 0) h)) [
-      true ↦ λ live. omega (arith, leb-true _ _ live)
-    | false ↦ λ dead. omega arith
+      | true ↦ λ live. omega (arith, leb-true _ _ live)
+      | false ↦ λ dead. omega arith
     ] refl
 
 -- a live read is the last of its lane, and a regressed one isn't
@@ -90,31 +90,31 @@ pub read_at : (h : History) → IsRuled h → (i : ℕ) (shown : Shown) → Give
 read_at (Begun rates start) ruled i shown (a, (k, lt, e), logs) = absurd (omega arith)
 read_at (Then h (event.Read osc) actions) (given, ruled) i shown (a, in_actions, logs) =
     elim (chosen _ actions (actions_at h i) (λ xs. Contains xs a) in_actions) [
-      inl w ↦
-        let here = eqb-true _ _ w.0 in
-        let top = top_reading h osc a shown (subst (λ xs. Contains xs a) given w.1) logs in
-        let current = current_first h ruled in
-        let enough = leb-true _ _ top.0 in
-        record {
-          osc = osc;
-          mark = ap (λ b. cond b (Some (record { part = Lane 0; osc = osc })) (mark_at h i)) w.0;
-          after = omega arith;
-          within = omega arith;
-          live = omega (arith, enough, ap (λ (r : ClockRecord). r.born) current);
-          below = omega (arith, last_osc_live h osc actions top.0);
-          is = top.1 ∙ ap (λ r. shown_by (rates_of h) r osc) current;
-        }
-    | inr w ↦
-        let r = read_at h ruled i shown (a, w.1, logs) in
-        record {
-          osc = r.osc;
-          mark = ap (λ b. cond b (Some (record { part = Lane 0; osc = osc })) (mark_at h i)) w.0 ∙ r.mark;
-          after = r.after;
-          within = omega arith;
-          live = r.live;
-          below = omega (arith, last_osc_grows h (event.Read osc) actions);
-          is = r.is;
-        }
+      | inl w ↦
+          let here = eqb-true _ _ w.0 in
+          let top = top_reading h osc a shown (subst (λ xs. Contains xs a) given w.1) logs in
+          let current = current_first h ruled in
+          let enough = leb-true _ _ top.0 in
+          record {
+            osc = osc;
+            mark = ap (λ b. cond b (Some (record { part = Lane 0; osc = osc })) (mark_at h i)) w.0;
+            after = omega arith;
+            within = omega arith;
+            live = omega (arith, enough, ap (λ (r : ClockRecord). r.born) current);
+            below = omega (arith, last_osc_live h osc actions top.0);
+            is = top.1 ∙ ap (λ r. shown_by (rates_of h) r osc) current;
+          }
+      | inr w ↦
+          let r = read_at h ruled i shown (a, w.1, logs) in
+          record {
+            osc = r.osc;
+            mark = ap (λ b. cond b (Some (record { part = Lane 0; osc = osc })) (mark_at h i)) w.0 ∙ r.mark;
+            after = r.after;
+            within = omega arith;
+            live = r.live;
+            below = omega (arith, last_osc_grows h (event.Read osc) actions);
+            is = r.is;
+          }
     ]
 
 -- of two readings the later one has no lower oscillator reading
@@ -123,13 +123,18 @@ pub read_order : (h : History) → IsRuled h → (i j : ℕ) (earlier later : Sh
 read_order (Begun rates start) ruled i j earlier later lt (a, (k, below, e), logs) last = absurd (omega arith)
 read_order (Then h (event.Read osc) actions) (given, ruled) i j earlier later lt (a, in_a, logs_a) (b, in_b, logs_b) =
     elim (chosen _ actions (actions_at h i) (λ xs. Contains xs a) in_a) [
-      inl w ↦ absurd (omega (arith, eqb-true _ _ w.0, (read_at (Then h (event.Read osc) actions) (given, ruled) j later (b, in_b, logs_b)).within))
-    | inr w ↦ elim (chosen _ actions (actions_at h j) (λ xs. Contains xs b) in_b) [
-        inl v ↦
-          let first = read_at h ruled i earlier (a, w.1, logs_a) in
-          let top = top_reading h osc b later (subst (λ xs. Contains xs b) given v.1) logs_b in
-          (first.osc, osc, omega (arith, first.below, leb-true _ _ top.0), first.live, first.is,
-           top.1 ∙ ap (λ r. shown_by (rates_of h) r osc) (current_first h ruled))
-      | inr v ↦ read_order h ruled i j earlier later lt (a, w.1, logs_a) (b, v.1, logs_b)
+      | inl w ↦ absurd (omega (arith, eqb-true _ _ w.0, (read_at (Then h (event.Read osc) actions) (given, ruled) j later (b, in_b, logs_b)).within))
+      | inr w ↦ elim (chosen _ actions (actions_at h j) (λ xs. Contains xs b) in_b) [
+        | inl v ↦
+            let first = read_at h ruled i earlier (a, w.1, logs_a) in
+            let top = top_reading h osc b later (subst (λ xs. Contains xs b) given v.1) logs_b in (
+              first.osc,
+              osc,
+              omega (arith, first.below, leb-true _ _ top.0),
+              first.live,
+              first.is,
+              top.1 ∙ ap (λ r. shown_by (rates_of h) r osc) (current_first h ruled),
+            )
+        | inr v ↦ read_order h ruled i j earlier later lt (a, w.1, logs_a) (b, v.1, logs_b)
       ]
     ]

@@ -29,9 +29,9 @@ unfolding inaccuracy_of interval_of
 contains_at r from value None osc t0 t right elapses = tt
 contains_at r from value (Some f) osc t0 t right elapses =
     if_some _ _ (λ i e.
-        reading_contains r (started from value (Some f)) osc i
-            (f.lo +ℤ pos (least r (osc - from))) (f.hi +ℤ pos (most r (osc - from))) t
-            e refl (omega (arith, ints)) (omega (arith, ints)))
+    reading_contains r (started from value (Some f)) osc i
+    (f.lo +ℤ pos (least r (osc - from))) (f.hi +ℤ pos (most r (osc - from))) t
+    e refl (omega (arith, ints)) (omega (arith, ints)))
 
 -- the start is position 0
 mark_of_start : (h : History) → mark_at h 0 ≡ Some (record { part = Sync; osc = (start_of h).osc })
@@ -43,7 +43,7 @@ contains_time h ruled true_time honest i shown gives =
     let r = read_at h ruled i shown gives in
     let elapses = honest.drift 0 i _ _ r.after (mark_of_start h) r.mark tt r.live in
     subst (λ s. ContainsTime s (true_time i)) (sym r.is)
-        (contains_at (rates_of h) (start_of h).osc (start_of h).value (start_of h).first r.osc (true_time 0) (true_time i) honest.first elapses)
+    (contains_at (rates_of h) (start_of h).osc (start_of h).value (start_of h).first r.osc (true_time 0) (true_time i) honest.first elapses)
 
 order_along : (a b x y : ℤ) → a ≡ x → b ≡ y → x ≤ℤ y → a ≤ℤ b
 order_along a b x y e f h = rw (e, f) h
@@ -62,6 +62,6 @@ follows h ruled i j earlier later lt gives_earlier gives_later =
 
 pub safe : (history : History) → IsRuled history → IsSafe history
 safe h ruled = record {
-    contains = λ true_time honest i shown gives. contains_time h ruled true_time honest i shown gives;
-    follows_on = λ i j earlier later lt lanes gives_earlier gives_later. follows h ruled i j earlier later lt gives_earlier gives_later;
-  }
+  contains = λ true_time honest i shown gives. contains_time h ruled true_time honest i shown gives;
+  follows_on = λ i j earlier later lt lanes gives_earlier gives_later. follows h ruled i j earlier later lt gives_earlier gives_later;
+}
