@@ -2,5 +2,6 @@
 #![tactic(auto)]
 
 mod calendar;
+mod fields;
 
 pub use calendar::Civil;
