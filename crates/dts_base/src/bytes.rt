@@ -1,0 +1,69 @@
+ghost use Rattle.std.specs.Prelude.{◌≡◌, IfOk};
+
+use crate::NoMemory;
+use std::alloc::Global;
+use std::marker::Model;
+
+/// Octets of a fixed number, in memory of their own. Clauses see the list of octets.
+#[derive(Debug, Drop)]
+pub struct Bytes {
+    octets: Vec<u8>,
+}
+
+impl Model for Bytes {
+    ghost use Rattle.std.specs.Prelude.{List, ℕ};
+
+    ghost Value = { List ℕ };
+
+    ghost view = { λ b. b.octets.items };
+}
+
+impl Bytes {
+    /// A copy of these octets.
+    pub fn from_slice(alloc: Global, b: &[u8]) -> Result<Bytes, NoMemory>
+        ensures octets { IfOk result (λ bytes. bytes ≡ b.now) }
+    {
+        Ok(Bytes {
+            octets: b.to_vec(alloc)?,
+        })
+    }
+
+    /// Lends the octets.
+    pub fn as_slice(&self) -> &[u8]
+        ensures octets { result.now ≡ self.now }
+    {
+        self.octets.as_slice()
+    }
+}
+
+/// Octets of a text, in memory of their own. Clauses see the list of octets.
+#[derive(Debug, Drop)]
+pub struct Text {
+    octets: Bytes,
+}
+
+impl Model for Text {
+    ghost use Rattle.std.specs.Prelude.{List, ℕ};
+
+    ghost Value = { List ℕ };
+
+    ghost view = { λ t. t.octets };
+}
+
+impl Text {
+    /// A copy of these octets.
+    pub fn from_slice(alloc: Global, b: &[u8]) -> Result<Text, NoMemory>
+        ensures octets { IfOk result (λ text. text ≡ b.now) }
+    {
+        Ok(Text {
+            octets: Bytes::from_slice(alloc, b)?,
+        })
+    }
+
+    /// Lends the octets.
+    pub fn as_slice(&self) -> &[u8]
+        ensures octets { result.now ≡ self.now }
+    {
+        self.octets.as_slice()
+    }
+}
