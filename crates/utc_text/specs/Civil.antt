@@ -1,5 +1,5 @@
 -- Civil times of the Gregorian calendar, carried back to 1582-01-01, and their counts in units of 100 ns.
-use Rattle.std.specs.Prelude.{◌≡◌, ℕ, ◌+◌, ◌*◌, ◌<◌, ℤ, pos, ◌+ℤ◌, ◌*ℤ◌, ◌<ℤ◌, ◌≤ℤ◌}
+use Rattle.std.specs.Prelude.{◌≡◌, ℕ, ◌+◌, ◌*◌, ◌<◌, ℤ, pos, neg_ℤ, ◌+ℤ◌, ◌*ℤ◌, ◌<ℤ◌, ◌≤ℤ◌}
 use Rattle.std.specs.Int.{IsInRange}
 use Rattle.jiff_core.specs.Calendar.{IsBetween, days_in_month, days_from_civil}
 use Rattle.utc_text.specs.declared.calendar.Civil.{Civil}
@@ -9,8 +9,11 @@ abbrev pub day_number : ℤ → ℕ → ℕ → ℤ
 day_number year month day = days_from_civil year month day +ℤ pos 141_427
 
 -- the units from midnight to a time of day
+abbrev pub clock_units : ℕ → ℕ → ℕ → ℕ → ℕ
+clock_units hour minute second units = ((hour * 60 + minute) * 60 + second) * 10_000_000 + units
+
 abbrev pub time_of_day : Civil → ℕ
-time_of_day c = ((c.hour * 60 + c.minute) * 60 + c.second) * 10_000_000 + c.units
+time_of_day c = clock_units c.hour c.minute c.second c.units
 
 -- the units from the first midnight of a date
 abbrev pub midnight_count : ℤ → ℕ → ℕ → ℤ
@@ -45,3 +48,7 @@ pub record IsCivil (c : Civil) : Type 0 where
 -- a count of the years 1582 to 9999: from the first midnight of 1582 to the first of 10000
 abbrev pub IsInYears : ℤ → Type 0
 IsInYears count = (midnight_count (pos 1582) 1 1 ≤ℤ count) × (count <ℤ midnight_count (pos 10_000) 1 1)
+
+-- a time differential factor is less than a day either way
+abbrev pub IsTdf : ℤ → Type 0
+IsTdf t = IsBetween (neg_ℤ (pos 1439)) (pos 1439) t

@@ -1,2 +1,3 @@
 pub mod Civil
 pub mod Fields
+pub mod Reading

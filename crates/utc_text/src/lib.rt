@@ -2,6 +2,9 @@
 #![tactic(auto)]
 
 mod calendar;
+mod fault;
 mod fields;
+mod reading;
 
 pub use calendar::Civil;
+pub use fault::{CivilFault, PrintFault, TextFault, TextField};
