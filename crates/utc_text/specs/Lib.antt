@@ -1,3 +1,4 @@
 pub mod Civil
 pub mod Fields
 pub mod Reading
+pub mod Spelling
