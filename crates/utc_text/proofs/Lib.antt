@@ -1,3 +1,4 @@
 pub mod CivilLemmas
 pub mod DigitLemmas
 pub mod Again
+pub mod PrintLemmas

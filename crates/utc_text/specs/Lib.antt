@@ -1,4 +1,5 @@
 pub mod Civil
 pub mod Fields
+pub mod Printing
 pub mod Reading
 pub mod Spelling

@@ -4,6 +4,7 @@
 mod calendar;
 mod fault;
 mod fields;
+mod printing;
 mod reading;
 
 pub use calendar::Civil;
