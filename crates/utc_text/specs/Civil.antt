@@ -1,5 +1,5 @@
 -- Civil times of the Gregorian calendar, carried back to 1582-01-01, and their counts in units of 100 ns.
-use Rattle.std.specs.Prelude.{◌≡◌, ℕ, ◌+◌, ◌*◌, ◌<◌, ℤ, pos, neg_ℤ, ◌+ℤ◌, ◌*ℤ◌, ◌<ℤ◌, ◌≤ℤ◌}
+use Rattle.std.specs.Prelude.{◌≡◌, ℕ, ◌+◌, ◌*◌, ◌<◌, ℤ, pos, ◌+ℤ◌, ◌*ℤ◌, ◌<ℤ◌, ◌≤ℤ◌}
 use Rattle.std.specs.Int.{IsInRange}
 use Rattle.jiff_core.specs.Calendar.{IsBetween, days_in_month, days_from_civil}
 use Rattle.utc_text.specs.declared.calendar.Civil.{Civil}
@@ -48,7 +48,3 @@ pub record IsCivil (c : Civil) : Type 0 where
 -- a count of the years 1582 to 9999: from the first midnight of 1582 to the first of 10000
 abbrev pub IsInYears : ℤ → Type 0
 IsInYears count = (midnight_count (pos 1582) 1 1 ≤ℤ count) × (count <ℤ midnight_count (pos 10_000) 1 1)
-
--- a time differential factor is less than a day either way
-abbrev pub IsTdf : ℤ → Type 0
-IsTdf t = IsBetween (neg_ℤ (pos 1439)) (pos 1439) t

@@ -5,10 +5,10 @@ ghost use Rattle.std.specs.Prelude.{◌≡◌, ◌≤◌, ◌<◌, ◌^◌, ◌*
 ghost use Rattle.std.specs.Char.{is_ascii_digit};
 ghost use Rattle.std.specs.List.{take_while};
 ghost use Rattle.std.specs.Str.Parse.{AllDigits, digits_value};
+ghost use Rattle.utc_value.specs.Stamp.{IsInaccuracy};
 ghost use Rattle.utc_text.specs.Fields.{GivesField, behind, days_at, digits_at, fraction_at, inaccuracy_at, part_at, seconds_at, stated_at, tdf_hour_at, two_digits, units_of, year_at};
 
-/// The most that an inaccuracy can be, in units of 100 ns.
-const MAX_INACCURACY: u64 = 281_474_976_710_654;
+use utc_value::MAX_INACCURACY;
 
 /// The most days of a relative time.
 const MAX_DAYS: u64 = 10_675_199;
@@ -147,7 +147,7 @@ pub(crate) fn tdf_hour(here: &[u8]) -> Option<(Option<(bool, u8)>, &[u8])>
 #[tactic(auto, unfolding(crate::specs::Fields::seconds_at))]
 fn seconds(here: &[u8]) -> Option<(Option<u64>, &[u8])>
     ensures value { GivesField (λ x. (x.0, x.1.now)) result (seconds_at here.now) }
-    ensures bound { IfSome result (λ x. IfSome x.0 (λ units. units ≤ 2 ^ 48 - 2)) }
+    ensures bound { IfSome result (λ x. IsInaccuracy x.0) }
 {
     let (seconds, rest) = digits(here, 9)?;
     let (fraction, rest) = fraction(rest)?;
@@ -162,7 +162,7 @@ fn seconds(here: &[u8]) -> Option<(Option<u64>, &[u8])>
 #[tactic(auto, unfolding(crate::specs::Fields::stated_at))]
 fn stated(here: &[u8]) -> Option<(Option<u64>, &[u8])>
     ensures value { GivesField (λ x. (x.0, x.1.now)) result (stated_at here.now) }
-    ensures bound { IfSome result (λ x. IfSome x.0 (λ units. units ≤ 2 ^ 48 - 2)) }
+    ensures bound { IfSome result (λ x. IsInaccuracy x.0) }
 {
     if here.starts_with(b"-----") {
         return Some((None, &here[5..]));
@@ -177,7 +177,7 @@ fn stated(here: &[u8]) -> Option<(Option<u64>, &[u8])>
 #[tactic(auto, unfolding(crate::specs::Fields::inaccuracy_at))]
 pub(crate) fn inaccuracy(here: &[u8]) -> Option<(Option<u64>, &[u8])>
     ensures value { GivesField (λ x. (x.0, x.1.now)) result (inaccuracy_at here.now) }
-    ensures bound { IfSome result (λ x. IfSome x.0 (λ units. units ≤ 2 ^ 48 - 2)) }
+    ensures bound { IfSome result (λ x. IsInaccuracy x.0) }
 {
     match here {
         [b'I', rest @ ..] => stated(rest),

@@ -2,7 +2,8 @@
 
 ghost use Rattle.std.specs.Prelude.{◌≡◌, ◌+◌, ◌*◌, ◌/◌, ◌<◌, ◌≤◌, ◌^◌, ◌%◌, ◌∷◌, ◌++◌, [], pos, Some, unsigned_abs, if◌then◌else◌, int_lt, IfOk, IfSome, OnOk};
 ghost use Rattle.std.specs.Fmt.{decimal};
-ghost use Rattle.utc_text.specs.Civil.{IsCivil, IsTdf};
+ghost use Rattle.utc_value.specs.Stamp.{IsTdf, IsInaccuracy};
+ghost use Rattle.utc_text.specs.Civil.{IsCivil};
 ghost use Rattle.utc_text.specs.Spelling.{digits, clock_text, tdf_text, inaccuracy_text, absolute_text, relative_text, sign_text};
 ghost use Rattle.utc_text.specs.Printing.{clock_shown, tdf_shown, inaccuracy_shown, absolute_shown, days_shown, relative_shown};
 

@@ -3,7 +3,8 @@
 ghost use Rattle.std.specs.Prelude.{◌≡◌, ◌≤◌, ◌<◌, ◌^◌, ◌+◌, ◌-◌, ◌*◌, if◌then◌else◌, pos, neg_ℤ, ◌≤ℤ◌, FitsSigned, IfOk, IfSome};
 ghost use Rattle.std.specs.Int.{w64, IsInRange};
 ghost use Rattle.jiff_core.specs.Calendar.{days_in_month};
-ghost use Rattle.utc_text.specs.Civil.{clock_units, IsCivil, IsWrittenYear, IsTdf};
+ghost use Rattle.utc_value.specs.Stamp.{IsTdf, IsInaccuracy};
+ghost use Rattle.utc_text.specs.Civil.{clock_units, IsCivil, IsWrittenYear};
 ghost use Rattle.utc_text.specs.Fields.{GivesField};
 ghost use Rattle.utc_text.specs.Reading.{GivesText, signed, fits_time, Clock as ClockText, YearMonthDay, Moment as MomentText, Length as LengthText, fault_at, right_at, date_of, clock_of, tdf_minute_of, tdf_of, end_of, moment_of, sign_at, time_of, length_of};
 
@@ -138,7 +139,7 @@ fn read_tdf<'a>(text: &[u8], left: &'a [u8]) -> Result<(i16, &'a [u8]), TextFaul
 #[tactic(auto, unfolding(crate::specs::Reading::end_of, crate::specs::Reading::right_at))]
 fn read_end(text: &[u8], left: &[u8]) -> Result<Option<u64>, TextFault>
     ensures value { GivesText (λ x. x) result (end_of text.now left.now) }
-    ensures bound { IfOk result (λ x. IfSome x (λ units. units ≤ 2 ^ 48 - 2)) }
+    ensures bound { IfOk result IsInaccuracy }
 {
     let (inaccuracy, left) = fields::inaccuracy(left).ok_or(fault(
         text,
@@ -163,7 +164,7 @@ fn read_moment(text: &[u8]) -> Result<Moment, TextFault>
     ensures value { GivesText (λ m. record { civil = m.civil; tdf = m.tdf; inaccuracy = m.inaccuracy }) result (moment_of text.now) }
     ensures civil { IfOk result (λ m. IsCivil m.civil) }
     ensures tdf { IfOk result (λ m. IsTdf m.tdf) }
-    ensures inaccuracy { IfOk result (λ m. IfSome m.inaccuracy (λ units. units ≤ 2 ^ 48 - 2)) }
+    ensures inaccuracy { IfOk result (λ m. IsInaccuracy m.inaccuracy) }
 {
     let (date, left) = read_date(text, text)?;
     let (clock, left) = read_clock(text, left)?;
@@ -239,7 +240,7 @@ struct Length {
 #[tactic(auto, unfolding(crate::specs::Reading::length_of))]
 fn read_length(text: &[u8]) -> Result<Length, TextFault>
     ensures value { GivesText (λ l. record { time = l.time; inaccuracy = l.inaccuracy }) result (length_of text.now) }
-    ensures inaccuracy { IfOk result (λ l. IfSome l.inaccuracy (λ units. units ≤ 2 ^ 48 - 2)) }
+    ensures inaccuracy { IfOk result (λ l. IsInaccuracy l.inaccuracy) }
 {
     let (negative, left) = read_sign(text);
     let (time, left) = read_time(text, negative, left)?;
