@@ -6,7 +6,7 @@ use Rattle.jiff_core.specs.declared.civil.date.Date.{Date}
 use Rattle.jiff_core.specs.Calendar.{day_count, days_from_civil, days_in_month, IsYear, IsCivilDate}
 use Rattle.jiff_core.specs.Date.{epoch_day, IsYmd}
 use Rattle.jiff_core.proofs.SignedLemmas.{signed_arith}
-use Rattle.jiff_core.proofs.CalendarLemmas.{days_from_civil-day_count, day_count-epoch, day_count-end, day_count-lt_year, day_count_bounds}
+use Rattle.jiff_core.proofs.CalendarLemmas.{days_from_civil-day_count, day_count-epoch, day_count-end, day_count-day_of_year, day_count-lt_year}
 use Rattle.jiff_core.proofs.MarchLemmas.{day_count-early}
 use Rattle.jiff_core.proofs.DateLemmas.{civil, epoch_day_injective}
 use Rattle.utc_text.specs.declared.calendar.Civil.{Civil}
@@ -52,3 +52,36 @@ civil_from d count day units c written number split fits y m n h i s u =
 pub abs_within : (z : ℤ) (n : ℕ) → neg_ℤ (pos n) ≤ℤ z → z ≤ℤ pos n → unsigned_abs z ≤ n
 abs_within (pos a) n low high = omega (arith, signed_arith)
 abs_within (negsuc a) n low high = omega (arith, signed_arith)
+
+day_count-year : (y : ℤ) (m d : ℕ) → 1 ≤ d → day_count y 1 1 ≤ day_count y m d
+day_count-year y m d h = omega (arith, day_count-day_of_year y m d h)
+
+-- a civil time of those years has a count of them
+pub in_years : (c : Civil) → IsCivil c → IsInYears (civil_count c)
+in_years c h =
+    let date : IsCivilDate c.year c.month c.day = ((omega (arith, signed_arith, h.year), omega (arith, signed_arith, h.year)), h.month, h.day) in
+    let first : IsCivilDate (pos 1582) 1 1 = ((omega (arith, signed_arith), omega (arith, signed_arith)), (omega arith, omega arith), (omega arith, omega arith)) in
+    let from : day_count (pos 1582) 1 1 ≤ day_count c.year c.month c.day = by_lt_z (pos 1582) c.year (λ lt. omega (arith, day_count-lt_year (pos 1582) 1 1 c.year c.month c.day first h.day.0 lt)) (λ ge. let same : c.year ≡ pos 1582 = omega (arith, signed_arith, ge, h.year) in rw same (day_count-year (pos 1582) c.month c.day h.day.0)) in
+    let to = day_count-lt_year c.year c.month c.day (pos 10_000) 1 1 date (omega arith) (omega (arith, signed_arith, h.year)) in
+    let clock : time_of_day c < 864_000_000_000 = omega (arith, h.hour, h.minute, h.second, h.units) in
+    (omega (arith, signed_arith, from, days_from_civil-day_count c.year c.month c.day, days_from_civil-day_count (pos 1582) 1 1), omega (arith, signed_arith, to, clock, days_from_civil-day_count c.year c.month c.day, days_from_civil-day_count (pos 10_000) 1 1))
+
+date_in : (c : Civil) → IsCivil c → Date
+date_in c h = record { year = c.year; month = c.month; day = c.day; year_in = (omega (arith, signed_arith, h.year), omega (arith, signed_arith, h.year)); month_in = h.month; day_in = h.day }
+
+abbrev made : ℤ → ℕ → ℕ → ℕ → ℕ → ℕ → ℕ → Civil
+made year month day hour minute second units = record { year = year; month = month; day = day; hour = hour; minute = minute; second = second; units = units }
+
+same_parts : (a b : Civil) → a.year ≡ b.year → a.month ≡ b.month → a.day ≡ b.day → a.hour ≡ b.hour → a.minute ≡ b.minute → a.second ≡ b.second → a.units ≡ b.units → a ≡ b
+same_parts a b y m d h n s u = let whole : made a.year a.month a.day a.hour a.minute a.second a.units ≡ made b.year b.month b.day b.hour b.minute b.second b.units = rw (y, m, d, h, n, s, u) refl in whole
+
+-- and is the only one with its count
+pub same_civil : (a b : Civil) → IsCivil a → IsCivil b → civil_count a ≡ civil_count b → a ≡ b
+unfolding date_in
+same_civil a b h k e =
+    let clock : time_of_day a < 864_000_000_000 = omega (arith, h.hour, h.minute, h.second, h.units) in
+    let clock' : time_of_day b < 864_000_000_000 = omega (arith, k.hour, k.minute, k.second, k.units) in
+    let day : days_from_civil a.year a.month a.day ≡ days_from_civil b.year b.month b.day = omega (arith, signed_arith, e, clock, clock') in
+    let same = epoch_day_injective (date_in a h) (date_in b k) day in
+    let units : time_of_day a ≡ time_of_day b = omega (arith, signed_arith, e, day) in
+    same_parts a b same.0 same.1 same.2 (omega (arith, units, h.minute, h.second, h.units, k.minute, k.second, k.units)) (omega (arith, units, h.minute, h.second, h.units, k.minute, k.second, k.units)) (omega (arith, units, h.minute, h.second, h.units, k.minute, k.second, k.units)) (omega (arith, units, h.minute, h.second, h.units, k.minute, k.second, k.units))

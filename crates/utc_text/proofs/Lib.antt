@@ -2,3 +2,5 @@ pub mod CivilLemmas
 pub mod DigitLemmas
 pub mod Again
 pub mod PrintLemmas
+pub mod Laws
+pub mod CivilAnswers

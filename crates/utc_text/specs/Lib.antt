@@ -3,3 +3,4 @@ pub mod Fields
 pub mod Printing
 pub mod Reading
 pub mod Spelling
+pub mod Texts

@@ -1,6 +1,8 @@
 //! Civil times of the Gregorian calendar and their counts.
 
-ghost use Rattle.std.specs.Prelude.{◌≡◌, MatchOption};
+ghost use Rattle.std.specs.Prelude.{◌≡◌, ◌↔◌, pos, IsTrue, MatchOption};
+ghost use Rattle.std.specs.Int.{IsInRange};
+ghost use Rattle.jiff_core.specs.Calendar.{days_in_month};
 ghost use Rattle.utc_text.specs.Civil.{IsCivil, IsInYears, IsWrittenDay, IsWrittenYear, civil_count, day_number, midnight_count};
 
 use jiff::ToSpan;
@@ -40,6 +42,15 @@ pub struct Civil {
     pub units: u32,
 }
 
+/// The days of a month.
+pub(crate) fn month_days(year: u16, month: u8) -> u8
+    requires year { IsWrittenYear (pos year) }
+    requires month { IsInRange 1 12 month }
+    ensures { result ≡ days_in_month (pos year) month }
+{
+    date(year as i16, month as i8, 1).days_in_month() as u8
+}
+
 /// The count of a date's first midnight.
 fn count_of_midnight(day: Date) -> i128
     ensures { result ≡ midnight_count day.year day.month day.day }
@@ -48,7 +59,7 @@ fn count_of_midnight(day: Date) -> i128
 }
 
 /// The count of a civil time, taken as UTC.
-fn count_of(c: Civil) -> i128
+pub(crate) fn count_of(c: Civil) -> i128
     requires { IsCivil c }
     ensures { result ≡ civil_count c }
 {
@@ -70,7 +81,7 @@ fn date_of_day(day: i64) -> Date
 }
 
 /// The civil time with that count, where it lies in the years 1582 to 9999.
-fn civil_of(count: i128) -> Option<Civil>
+pub(crate) fn civil_of(count: i128) -> Option<Civil>
     ensures { MatchOption result (¬ IsInYears count) (λ c. IsCivil c × (civil_count c ≡ count)) }
 {
     let day = count.div_euclid(DAY);
@@ -89,4 +100,25 @@ fn civil_of(count: i128) -> Option<Civil>
         second: (seconds % 60) as u8,
         units: (units % 10_000_000) as u32,
     })
+}
+
+/// Whether it is a date of the years 1582 to 9999 and a time of day.
+pub(crate) fn is_civil(c: Civil) -> bool
+    ensures { IsTrue result ↔ IsCivil c }
+{
+    is_date(c.year, c.month, c.day)
+        && c.hour < 24
+        && c.minute < 60
+        && c.second < 60
+        && c.units < 10_000_000
+}
+
+/// Whether it is a date of the years 1582 to 9999.
+fn is_date(year: i16, month: u8, day: u8) -> bool
+    ensures { IsTrue result ↔ (IsWrittenYear year × IsInRange 1 12 month × IsInRange 1 (days_in_month year month) day) }
+{
+    if year < 1582 || 9999 < year || month < 1 || 12 < month {
+        return false;
+    }
+    1 <= day && day <= month_days(year as u16, month)
 }

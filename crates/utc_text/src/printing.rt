@@ -51,7 +51,13 @@ fn push_fraction(out: &mut Vec<u8>, units: u64) -> Result<(), AllocError>
 }
 
 /// Writes a time of day.
-fn push_clock(out: &mut Vec<u8>, hour: u8, minute: u8, second: u8, units: u32) -> Result<(), AllocError>
+fn push_clock(
+    out: &mut Vec<u8>,
+    hour: u8,
+    minute: u8,
+    second: u8,
+    units: u32,
+) -> Result<(), AllocError>
     ensures { OnOk result (out.new.items ≡ out.old.items ++ clock_text (clock_shown hour minute second units)) }
 {
     push_part(out, b'-', hour)?;
@@ -83,7 +89,12 @@ fn push_inaccuracy(out: &mut Vec<u8>, inaccuracy: Option<u64>) -> Result<(), All
 }
 
 /// The text of an absolute time that clocks show as this civil time.
-fn absolute(alloc: Global, c: Civil, tdf: i16, inaccuracy: Option<u64>) -> Result<Vec<u8>, AllocError>
+fn absolute(
+    alloc: Global,
+    c: Civil,
+    tdf: i16,
+    inaccuracy: Option<u64>,
+) -> Result<Vec<u8>, AllocError>
     requires civil { IsCivil c }
     requires tdf { IsTdf tdf }
     ensures { IfOk result (λ out. out.items ≡ absolute_text (absolute_shown c tdf inaccuracy)) }

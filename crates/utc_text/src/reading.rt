@@ -1,17 +1,20 @@
 //! Reads texts of times, field by field.
 
-ghost use Rattle.std.specs.Prelude.{◌≡◌, ◌≤◌, ◌<◌, ◌^◌, ◌+◌, ◌-◌, ◌*◌, if◌then◌else◌, pos, neg_ℤ, ◌≤ℤ◌, FitsSigned, IfOk, IfSome};
+ghost use Rattle.std.specs.Prelude.{◌≡◌, ◌≤◌, ◌<◌, ◌^◌, ◌+◌, ◌-◌, ◌*◌, if◌then◌else◌, Ok, pos, neg_ℤ, ◌≤ℤ◌, FitsSigned, IfOk, IfSome};
 ghost use Rattle.std.specs.Int.{w64, IsInRange};
 ghost use Rattle.jiff_core.specs.Calendar.{days_in_month};
 ghost use Rattle.utc_value.specs.Stamp.{IsTdf, IsInaccuracy};
 ghost use Rattle.utc_text.specs.Civil.{clock_units, IsCivil, IsWrittenYear};
 ghost use Rattle.utc_text.specs.Fields.{GivesField};
+ghost use Rattle.utc_text.specs.Spelling.{AbsoluteFields, IsAbsolute, absolute_text, absolute_said, RelativeFields, IsRelative, relative_text, relative_said};
+ghost use Rattle.utc_text.specs.Texts.{absolute_of, relative_of, moment_stamp, length_stamp};
 ghost use Rattle.utc_text.specs.Reading.{GivesText, signed, fits_time, Clock as ClockText, YearMonthDay, Moment as MomentText, Length as LengthText, fault_at, right_at, date_of, clock_of, tdf_minute_of, tdf_of, end_of, moment_of, sign_at, time_of, length_of};
 
-use crate::calendar::Civil;
+use crate::calendar::{Civil, month_days};
+use crate::dates::count_in_utc;
 use crate::fault::{TextFault, TextField};
 use crate::fields;
-use jiff::civil::date as date_from;
+use utc_value::Utc;
 
 /// A date of the years 1582 to 9999.
 #[derive(Clone, Copy)]
@@ -37,15 +40,6 @@ fn fault(text: &[u8], field: TextField, left: &[u8]) -> TextFault
 {
     let offset = text.len().saturating_sub(left.len()).min(u32::MAX as usize) as u32;
     TextFault { field, offset }
-}
-
-/// The days of a month.
-fn month_days(year: u16, month: u8) -> u8
-    requires year { IsWrittenYear (pos year) }
-    requires month { IsInRange 1 12 month }
-    ensures { result ≡ days_in_month (pos year) month }
-{
-    date_from(year as i16, month as i8, 1).days_in_month() as u8
 }
 
 #[tactic(auto, unfolding(crate::specs::Reading::date_of, crate::specs::Reading::right_at))]
@@ -153,6 +147,7 @@ fn read_end(text: &[u8], left: &[u8]) -> Result<Option<u64>, TextFault>
 }
 
 /// What an absolute text says.
+#[derive(Clone, Copy)]
 struct Moment {
     civil: Civil,
     tdf: i16,
@@ -232,6 +227,7 @@ fn read_time<'a>(text: &[u8], negative: bool, left: &'a [u8]) -> Result<(i64, &'
 }
 
 /// What a relative text says.
+#[derive(Clone, Copy)]
 struct Length {
     time: i64,
     inaccuracy: Option<u64>,
@@ -246,4 +242,45 @@ fn read_length(text: &[u8]) -> Result<Length, TextFault>
     let (time, left) = read_time(text, negative, left)?;
     let inaccuracy = read_end(text, left)?;
     Ok(Length { time, inaccuracy })
+}
+
+/// Reads the text of an absolute time, as `1970-01-01-00:00:00.0000000+00:00I0.0000000` (C310). It
+/// takes no memory. The fault names the first field that is not right.
+///
+/// The civil time is local: the time is its count minus the time differential factor. Without that
+/// factor it is 0, and without an inaccuracy that is unspecified.
+pub fn parse_abs(text: &[u8]) -> Result<Utc, TextFault>
+    ensures exact { result ≡ absolute_of text.now }
+    ensures found { IfOk result (λ u. (f : AbsoluteFields) × IsAbsolute f × (text.now ≡ absolute_text f) × (u ≡ moment_stamp (absolute_said f))) }
+    ensures only { (f : AbsoluteFields) → IsAbsolute f → text.now ≡ absolute_text f → result ≡ Ok (moment_stamp (absolute_said f)) }
+{
+    read_absolute(text)
+}
+
+#[tactic(auto, unfolding(crate::specs::Texts::absolute_of))]
+fn read_absolute(text: &[u8]) -> Result<Utc, TextFault>
+    ensures { result ≡ absolute_of text.now }
+{
+    let moment = read_moment(text)?;
+    let time = count_in_utc(moment.civil, moment.tdf);
+    Ok(Utc::absolute(time, moment.inaccuracy, moment.tdf).unwrap())
+}
+
+/// Reads the text of a relative time, as `-00-00:00:01.0000000I-----` (C310). It takes no memory.
+/// The fault names the first field that is not right, and Days where the time needs more than 64
+/// bits with its sign.
+pub fn parse_rel(text: &[u8]) -> Result<Utc, TextFault>
+    ensures exact { result ≡ relative_of text.now }
+    ensures found { IfOk result (λ u. (f : RelativeFields) × IsRelative f × (text.now ≡ relative_text f) × (u ≡ length_stamp (relative_said f))) }
+    ensures only { (f : RelativeFields) → IsRelative f → text.now ≡ relative_text f → result ≡ Ok (length_stamp (relative_said f)) }
+{
+    read_relative(text)
+}
+
+#[tactic(auto, unfolding(crate::specs::Texts::relative_of))]
+fn read_relative(text: &[u8]) -> Result<Utc, TextFault>
+    ensures { result ≡ relative_of text.now }
+{
+    let length = read_length(text)?;
+    Ok(Utc::relative(length.time, length.inaccuracy).unwrap())
 }
