@@ -4,3 +4,4 @@ pub mod Again
 pub mod PrintLemmas
 pub mod Laws
 pub mod CivilAnswers
+pub mod Takes
