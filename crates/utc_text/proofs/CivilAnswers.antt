@@ -4,7 +4,7 @@ use Rattle.std.specs.Prelude.{IsOk, IfOk, IfErr, IsErrOf}
 use Rattle.utc_value.specs.Stamp.{Stamp, IsTdf}
 use Rattle.utc_value.specs.declared.Kind.TheVariants.{Absolute}
 use Rattle.utc_text.specs.declared.fault.PrintFault.{PrintFault}
-use Rattle.utc_text.specs.declared.fault.PrintFault.TheVariants.{TdfRange, YearRange}
+use Rattle.utc_text.specs.declared.fault.PrintFault.TheVariants.{TdfRange, YearRange, NoMemory}
 use Rattle.utc_text.specs.declared.calendar.Civil.{Civil}
 use Rattle.utc_text.specs.Civil.{IsCivil, IsInYears, civil_count, local_count}
 use Rattle.utc_text.specs.Texts.{IsPrintable}
@@ -46,3 +46,11 @@ year (Ok c) u tdf kind value err = (λ e. absurd cc, λ p. absurd (p.2 (subst Is
 year (Err fault) u tdf kind value err =
     let w = year_of fault u.time tdf err in
     (λ e. let both = w.0 (fault_is fault YearRange e) in (kind, both.0, both.1), λ p. ap (λ (x : PrintFault). Err x) (w.1 (p.1, p.2)))
+
+no_memory_in : (fault : PrintFault) (time tdf : ℤ) → Fault fault time tdf → fault ≡ NoMemory → ⊥
+no_memory_in fault time tdf (inl a) e = let x : TdfRange ≡ NoMemory = sym a.0 ∙ e in absurd cc
+no_memory_in fault time tdf (inr b) e = let x : YearRange ≡ NoMemory = sym b.0 ∙ e in absurd cc
+
+pub no_memory : (r : Result Civil PrintFault) (time tdf : ℤ) → IfErr r (λ fault. Fault fault time tdf) → r ≡ Err NoMemory → ⊥
+no_memory (Ok c) time tdf err e = absurd cc
+no_memory (Err fault) time tdf err e = no_memory_in fault time tdf err (fault_is fault NoMemory e)

@@ -5,3 +5,4 @@ pub mod PrintLemmas
 pub mod Laws
 pub mod CivilAnswers
 pub mod Takes
+pub mod PrintAnswers

@@ -1,6 +1,6 @@
 //! Civil times of timestamps.
 
-ghost use Rattle.std.specs.Prelude.{◌≡◌, ◌≢◌, ◌↔◌, ◌⊎◌, IsOk, IfOk, IfErr, IsErrOf, Ok, IsTrue};
+ghost use Rattle.std.specs.Prelude.{◌≡◌, ◌≢◌, ◌↔◌, ◌⊎◌, IsOk, IfOk, IfErr, IsErrOf, Ok, Err, IsTrue};
 ghost use Rattle.std.specs.Result.{OkIff};
 ghost use Rattle.utc_value.specs.Stamp.{IsTdf, IsInaccuracy, absolute_stamp};
 ghost use Rattle.utc_value.specs.declared.Kind.TheVariants.{Absolute, Relative};
@@ -39,6 +39,7 @@ pub fn civil(u: Utc, tdf: i16) -> Result<Civil, PrintFault>
     ensures value { IfOk result (λ c. IsCivil c × (civil_count c ≡ local_count u.time tdf)) }
     ensures only { (c : Civil) → IsCivil c → u.kind ≡ Absolute → IsTdf tdf → civil_count c ≡ local_count u.time tdf → result ≡ Ok c }
 
+    ensures memory { result ≢ Err PrintFault.NoMemory }
     ensures kinds { IsErrOf result PrintFault.Kinds ↔ (u.kind ≡ Relative) }
     ensures tdf { IsErrOf result PrintFault.TdfRange ↔ ((u.kind ≡ Absolute) × (¬ IsTdf tdf)) }
     ensures year { IsErrOf result PrintFault.YearRange ↔ ((u.kind ≡ Absolute) × IsTdf tdf × (¬ IsInYears (local_count u.time tdf))) }

@@ -11,4 +11,5 @@ mod reading;
 pub use calendar::Civil;
 pub use dates::{civil, from_civil};
 pub use fault::{CivilFault, PrintFault, TextFault, TextField};
+pub use printing::{print_any, print_gmt, print_rel};
 pub use reading::{parse_abs, parse_rel};

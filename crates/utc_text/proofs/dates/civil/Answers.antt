@@ -1,7 +1,7 @@
 use Rattle.std.proofs.Common.{◌≡◌, rules, sym, ◌∙◌, FitsSigned, w64, to_z-of_z}
 use mir.Syntax.{w16}
 use Rattle.utc_value.specs.declared.Kind.TheVariants.{Absolute}
-use Rattle.utc_text.proofs.CivilAnswers.{succeeds, only, year}
+use Rattle.utc_text.proofs.CivilAnswers.{succeeds, only, year, no_memory}
 use Rattle.utc_text.proofs.dates.civil.Goals as goal
 
 pub returns-in-Absolute-clause-succeeds : goal.returns-in-Absolute-clause-succeeds
@@ -30,3 +30,6 @@ returns-in-Absolute-clause-year c =
     let value = simp time at (simp to_z-of_z at c.civil_at.ensures.value) in
     let err = simp time at (simp to_z-of_z at c.civil_at.ensures.err) in
     year c.civil_at.result c.args.u c.args.tdf (sym c.kind.ensures.value ∙ c.in-Absolute.is) value err
+
+pub returns-in-Absolute-clause-memory : goal.returns-in-Absolute-clause-memory
+returns-in-Absolute-clause-memory c = no_memory c.civil_at.result _ _ c.civil_at.ensures.err
