@@ -1,20 +1,19 @@
 -- What is spelled by the grammar is read.
-use Rattle.std.proofs.Common.{◌≡◌, ◌≢◌, ℕ, zero, suc, ◌+◌, ◌-◌, ◌*◌, ◌/◌, ◌%◌, ◌^◌, ◌<◌, ◌≤◌, Bool, true, false, cond, nat_eq, nat_le, ◌&&◌, ◌||◌, List, [], ◌∷◌, ◌++◌, length, get_or, take, drop, Option, Some, None, Result, Ok, Err, refl, sym, ap, ◌∙◌, arith, append_assoc, ℤ, pos}
-use Rattle.std.proofs.lemmas.Bool.{le-leb, lt-ltb, eq-eqb, ne_eqb, eqb-false, and_from}
+use Rattle.std.proofs.Common.{◌≡◌, ℕ, zero, suc, ◌+◌, ◌-◌, ◌*◌, ◌/◌, ◌%◌, ◌^◌, ◌<◌, ◌≤◌, Bool, true, false, cond, nat_eq, List, [], ◌∷◌, ◌++◌, length, get_or, Option, Some, None, Ok, refl, sym, ap, ◌∙◌, arith, append_assoc, pos}
+use Rattle.std.proofs.lemmas.Bool.{le-leb, lt-ltb, eq-eqb, ne_eqb, eqb-false}
 use Rattle.std.proofs.lemmas.Bool.Decides.{nat_tests}
-use Rattle.std.proofs.lemmas.List.{take_at, drop_at, append-nil, length-append}
+use Rattle.std.proofs.lemmas.List.{take_at, drop_at, append-nil}
 use Rattle.std.specs.Int.{IsInRange}
 use Rattle.std.specs.List.{prefix_len}
-use Rattle.std.specs.Char.{digit_value, is_ascii_digit}
+use Rattle.std.specs.Char.{is_ascii_digit}
 use Rattle.std.specs.Str.Parse.{AllDigits, digits_value}
-use Rattle.utc_text.specs.Fields.{◌>>=◌, behind, two_digits, part_at, year_at, digits_at, fraction_at, tdf_hour_at, seconds_at, stated_at, inaccuracy_at, days_at, units_of}
+use Rattle.utc_text.specs.Fields.{behind, two_digits, part_at, year_at, digits_at, fraction_at, tdf_hour_at, seconds_at, stated_at, inaccuracy_at, days_at}
 use Rattle.utc_text.specs.Spelling.{digits, fraction_text, IsFraction, fraction_units, date_text, IsDateField, clock_text, ClockField, IsClockField, clock_said, TdfField, tdf_text, IsTdfField, tdf_said, InaccuracyField, Unstated, Dashes, Infinite, Seconds, inaccuracy_text, seconds_units, IsInaccuracyField, inaccuracy_said, AbsoluteFields, absolute_text, IsAbsolute, absolute_said, IsDaysField, sign_text, RelativeFields, relative_text, IsRelative, relative_units, relative_said}
 use Rattle.std.proofs.Common.{FitsSigned, w64}
 use Rattle.jiff_core.proofs.SignedLemmas.{signed_arith}
 use Rattle.jiff_core.specs.Calendar.{days_in_month}
 use Rattle.jiff_core.proofs.CalendarLemmas.{days_in_month_bounds}
-use Rattle.utc_text.specs.declared.fault.TextFault.{TextFault}
-use Rattle.utc_text.specs.Reading.{YearMonthDay, Clock, Moment, right_at, date_of, clock_of, tdf_minute_of, tdf_of, end_of, moment_of, signed, sign_at, fits_time, time_of, length_of}
+use Rattle.utc_text.specs.Reading.{YearMonthDay, right_at, date_of, clock_of, tdf_minute_of, tdf_of, end_of, moment_of, signed, sign_at, fits_time, time_of, length_of}
 use Rattle.utc_text.proofs.DigitLemmas.{digit_octet}
 
 digit_test : (d : ℕ) → d < 10 → is_ascii_digit (48 + d) ≡ true

@@ -1,16 +1,15 @@
 -- Day numbers and civil counts.
-use Rattle.std.proofs.Common.{◌≡◌, ℕ, ◌+◌, ◌-◌, ◌*◌, ◌/◌, ◌%◌, ◌<◌, ◌≤◌, ◌⊎◌, inl, inr, refl, sym, ap, ◌∙◌, arith, ℤ, pos, negsuc, neg_ℤ, ◌+ℤ◌, ◌*ℤ◌, ◌<ℤ◌, ◌≤ℤ◌, unsigned_abs}
+use Rattle.std.proofs.Common.{◌≡◌, ℕ, ◌/◌, ◌%◌, ◌<◌, ◌≤◌, refl, arith, ℤ, pos, negsuc, neg_ℤ, ◌+ℤ◌, ◌*ℤ◌, ◌≤ℤ◌, unsigned_abs}
 use Rattle.std.proofs.lemmas.Int.{by_lt_z}
-use Rattle.std.specs.Int.{IsInRange, int_div_euclid, int_rem_euclid}
 use Rattle.jiff_core.specs.declared.civil.date.Date.{Date}
-use Rattle.jiff_core.specs.Calendar.{day_count, days_from_civil, days_in_month, IsYear, IsCivilDate}
+use Rattle.jiff_core.specs.Calendar.{day_count, days_from_civil, IsCivilDate}
 use Rattle.jiff_core.specs.Date.{epoch_day, IsYmd}
 use Rattle.jiff_core.proofs.SignedLemmas.{signed_arith}
 use Rattle.jiff_core.proofs.CalendarLemmas.{days_from_civil-day_count, day_count-epoch, day_count-end, day_count-day_of_year, day_count-lt_year}
 use Rattle.jiff_core.proofs.MarchLemmas.{day_count-early}
 use Rattle.jiff_core.proofs.DateLemmas.{civil, epoch_day_injective}
 use Rattle.utc_text.specs.declared.calendar.Civil.{Civil}
-use Rattle.utc_text.specs.Civil.{IsCivil, IsInYears, IsWrittenDay, IsWrittenYear, civil_count, day_number, midnight_count, time_of_day}
+use Rattle.utc_text.specs.Civil.{IsCivil, IsInYears, IsWrittenDay, IsWrittenYear, civil_count, day_number, time_of_day}
 
 pub epoch_day-1970 : (d : Date) → IsYmd (pos 1970) (pos 1) (pos 1) d → epoch_day d ≡ pos 0
 epoch_day-1970 d h =

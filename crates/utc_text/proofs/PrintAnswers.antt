@@ -1,16 +1,16 @@
 -- What printing an octet list says of the public clauses.
-use Rattle.std.proofs.Common.{◌≡◌, ◌≢◌, ◌↔◌, ℕ, List, Option, Result, Ok, Err, refl, sym, ap, subst, ◌∙◌, arith, ℤ, pos, FitsSigned, w64}
+use Rattle.std.proofs.Common.{◌≡◌, ◌↔◌, ℕ, List, Option, Result, Ok, Err, refl, sym, ap, subst, ◌∙◌, arith, ℤ, pos}
 use Rattle.std.specs.Prelude.{IfOk, IfErr}
 use Rattle.jiff_core.proofs.SignedLemmas.{signed_arith}
 use Rattle.utc_value.specs.Stamp.{Stamp, IsTdf, IsInaccuracy, IsInRange, IsTdfOf, absolute_stamp, relative_stamp}
 use Rattle.utc_value.specs.declared.Kind.{Kind}
-use Rattle.utc_value.specs.declared.Kind.TheVariants.{Absolute, Relative}
+use Rattle.utc_value.specs.declared.Kind.TheVariants.{Relative}
 use Rattle.utc_text.specs.declared.fault.PrintFault.{PrintFault}
 use Rattle.utc_text.specs.declared.fault.PrintFault.TheVariants.{NoMemory}
 use Rattle.utc_text.specs.declared.calendar.Civil.{Civil}
 use Rattle.utc_text.specs.Civil.{IsCivil, civil_count, local_count}
 use Rattle.utc_text.specs.Printing.{IsShown, absolute_shown, relative_shown}
-use Rattle.utc_text.specs.Spelling.{absolute_text, absolute_said, relative_text, relative_said}
+use Rattle.utc_text.specs.Spelling.{absolute_text, relative_text}
 use Rattle.utc_text.specs.Reading.{Moment, Length}
 use Rattle.utc_text.specs.Texts.{absolute_of, relative_of, moment_stamp, length_stamp, utc_count}
 use Rattle.utc_text.proofs.Laws.{absolute_only, relative_only}

@@ -1,5 +1,5 @@
 -- What is printed is right by the grammar, and says what was printed.
-use Rattle.std.proofs.Common.{◌≡◌, ◌≢◌, ℕ, zero, suc, ◌+◌, ◌-◌, ◌*◌, ◌/◌, ◌%◌, ◌^◌, ◌<◌, ◌≤◌, Bool, true, false, cond, nat_eq, nat_le, List, [], ◌∷◌, ◌++◌, length, Option, Some, None, refl, sym, ap, subst, ◌∙◌, arith, append_assoc, ℤ, pos}
+use Rattle.std.proofs.Common.{◌≡◌, ℕ, zero, suc, ◌+◌, ◌-◌, ◌*◌, ◌/◌, ◌%◌, ◌^◌, ◌<◌, ◌≤◌, List, [], ◌∷◌, ◌++◌, length, Option, Some, None, refl, sym, ap, subst, ◌∙◌, arith, append_assoc, ℤ, pos}
 use Rattle.std.proofs.Common.{negsuc, neg_ℤ, ◌≤ℤ◌, unsigned_abs, inl, inr, int_lt, FitsSigned, w64}
 use Rattle.std.proofs.lemmas.Bool.Decides.{nat_tests}
 use Rattle.std.proofs.lemmas.Bool.{le-ltb, lt-ltb, cases_lt}
@@ -19,7 +19,7 @@ use Rattle.utc_text.specs.Civil.{IsCivil}
 use Rattle.utc_text.specs.Fields.{units_of}
 use Rattle.utc_text.specs.Reading.{signed}
 use Rattle.utc_text.specs.Printing.{clock_shown, tdf_shown, inaccuracy_shown, absolute_shown, days_shown, relative_shown}
-use Rattle.utc_text.specs.Spelling.{digits, IsFraction, ClockField, IsClockField, IsTdfField, tdf_said, IsInaccuracyField, inaccuracy_said, seconds_units, IsAbsolute, absolute_said, IsDaysField, IsRelative, relative_said, relative_units}
+use Rattle.utc_text.specs.Spelling.{digits, IsFraction, IsClockField, IsTdfField, tdf_said, IsInaccuracyField, inaccuracy_said, seconds_units, IsAbsolute, absolute_said, IsRelative, relative_said, relative_units}
 
 pub digits_step : (k n : ℕ) → (k ≡ 0 → ⊥) → digits k n ≡ digits (k - 1) (n / 10) ++ (48 + n % 10) ∷ []
 unfolding digits

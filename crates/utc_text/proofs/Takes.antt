@@ -1,6 +1,6 @@
 -- What is read is spelled by the grammar.
-use Rattle.std.proofs.Common.{◌≡◌, ℕ, zero, suc, ◌+◌, ◌-◌, ◌*◌, ◌/◌, ◌%◌, ◌^◌, ◌<◌, ◌≤◌, ◌⊎◌, inl, inr, Bool, true, false, cond, nat_eq, nat_le, ◌&&◌, ◌||◌, List, [], ◌∷◌, ◌++◌, length, get_or, take, drop, Option, Some, None, Result, Ok, Err, refl, sym, ap, subst, ◌∙◌, arith, append_assoc, ℤ, pos, FitsSigned, w64}
-use Rattle.std.proofs.lemmas.Bool.{leb-true, ltb-true, eqb-true, and_parts, or_cases}
+use Rattle.std.proofs.Common.{◌≡◌, ℕ, zero, suc, ◌+◌, ◌-◌, ◌*◌, ◌/◌, ◌%◌, ◌^◌, ◌<◌, ◌≤◌, Bool, true, false, cond, nat_eq, nat_le, ◌&&◌, ◌||◌, List, [], ◌∷◌, ◌++◌, length, take, drop, Option, Some, None, Result, Ok, Err, refl, sym, ap, subst, ◌∙◌, arith, append_assoc, ℤ, pos, FitsSigned, w64}
+use Rattle.std.proofs.lemmas.Bool.{leb-true, ltb-true, eqb-true, and_parts}
 use Rattle.std.proofs.lemmas.Bool.Decides.{nat_tests}
 use Rattle.std.proofs.lemmas.List.{append-nil, take-append-drop, nil_from_length}
 use Rattle.std.proofs.lemmas.List.Folds.{length-prefix_len}
@@ -20,7 +20,7 @@ use Rattle.utc_text.specs.Fields as fields
 use Rattle.utc_text.specs.Reading.{YearMonthDay, Clock, Moment, Length, right_at, date_of, clock_of, tdf_minute_of, tdf_of, end_of, moment_of, signed, sign_at, fits_time, time_of, length_of, fault_at, civil_of}
 use Rattle.utc_text.specs.Reading as reading
 use Rattle.utc_text.specs.Civil.{clock_units}
-use Rattle.utc_text.specs.Spelling.{digits, fraction_text, IsFraction, fraction_units, date_text, IsDateField, clock_text, ClockField, IsClockField, clock_said, TdfField, tdf_text, IsTdfField, tdf_said, InaccuracyField, Unstated, Dashes, Infinite, Seconds, inaccuracy_text, seconds_units, IsInaccuracyField, inaccuracy_said, AbsoluteFields, absolute_text, IsAbsolute, absolute_said, IsDaysField, sign_text, RelativeFields, relative_text, IsRelative, relative_units, relative_said}
+use Rattle.utc_text.specs.Spelling.{digits, fraction_text, IsFraction, fraction_units, date_text, IsDateField, clock_text, ClockField, IsClockField, clock_said, TdfField, tdf_text, IsTdfField, tdf_said, InaccuracyField, Unstated, Dashes, Infinite, Seconds, inaccuracy_text, seconds_units, IsInaccuracyField, inaccuracy_said, AbsoluteFields, absolute_text, IsAbsolute, absolute_said, IsDaysField, sign_text, RelativeFields, relative_text, IsRelative, relative_said}
 use Rattle.utc_text.proofs.DigitLemmas.{AllDigits-run}
 
 guard_some : {A : Type 0} (b : Bool) (x y : A) → cond b (Some x) None ≡ Some y → (b ≡ true) × (x ≡ y)

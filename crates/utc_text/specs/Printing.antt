@@ -1,10 +1,9 @@
 -- The texts that are printed: the fields that they spell, none of which is left out.
-use Rattle.std.specs.Prelude.{◌≡◌, ℕ, zero, suc, ◌+◌, ◌-◌, ◌*◌, ◌/◌, ◌%◌, ◌^◌, ◌<◌, ◌≤◌, nat_lt, Bool, if◌then◌else◌, List, [], ◌∷◌, ◌++◌, Option, Some, None, ℤ, pos, unsigned_abs, int_lt}
+use Rattle.std.specs.Prelude.{◌≡◌, ℕ, ◌/◌, ◌%◌, nat_lt, if◌then◌else◌, List, ◌∷◌, Option, Some, None, ℤ, pos, unsigned_abs, int_lt}
 use Rattle.std.specs.Fmt.{decimal}
 use Rattle.utc_text.specs.declared.calendar.Civil.{Civil}
 use Rattle.utc_text.specs.Civil.{IsCivil, civil_count, local_count}
-use Rattle.utc_text.specs.Reading.{YearMonthDay}
-use Rattle.utc_text.specs.Spelling.{digits, ClockField, TdfField, InaccuracyField, Dashes, Seconds, AbsoluteFields, absolute_text, RelativeFields, relative_text}
+use Rattle.utc_text.specs.Spelling.{digits, ClockField, TdfField, InaccuracyField, Dashes, Seconds, AbsoluteFields, absolute_text, RelativeFields}
 
 -- a time of day, with seven digits behind the point
 abbrev pub clock_shown : ℕ → ℕ → ℕ → ℕ → ClockField

@@ -1,11 +1,11 @@
 -- Texts of times, read field by field in their order: the value, or the first field that is not right with its place.
-use Rattle.std.specs.Prelude.{◌≡◌, ℕ, ◌+◌, ◌-◌, ◌*◌, ◌^◌, ◌==◌, ◌<◌, nat_le, nat_lt, min, Bool, true, false, if◌then◌else◌, List, [], ◌∷◌, length, Option, Some, None, Result, Ok, Err, ℤ, pos, neg_ℤ, ◌-ℤ◌, ◌*ℤ◌}
+use Rattle.std.specs.Prelude.{◌≡◌, ℕ, ◌+◌, ◌-◌, ◌*◌, ◌^◌, ◌==◌, nat_le, nat_lt, min, Bool, true, false, if◌then◌else◌, List, [], ◌∷◌, length, Option, Some, None, Result, Ok, Err, ℤ, pos, neg_ℤ}
 use Rattle.jiff_core.specs.Calendar.{days_in_month}
 use Rattle.utc_text.specs.declared.fault.TextField.{TextField}
 use Rattle.utc_text.specs.declared.fault.TextField.TheVariants.{Year, Month, Day, Days, Hour, Minute, Second, Fraction, TdfHour, TdfMinute, Inaccuracy, Tail}
 use Rattle.utc_text.specs.declared.fault.TextFault.{TextFault}
 use Rattle.utc_text.specs.declared.calendar.Civil.{Civil}
-use Rattle.utc_text.specs.Civil.{civil_count, clock_units}
+use Rattle.utc_text.specs.Civil.{clock_units}
 use Rattle.utc_text.specs.Fields.{part_at, year_at, fraction_at, tdf_hour_at, inaccuracy_at, days_at}
 
 infixl 10 ◌>>=◌

@@ -1,9 +1,9 @@
 -- The grammar of texts of times: what each field may be, how it is spelled and what it says, in their order. A separator belongs to the field behind it.
-use Rattle.std.specs.Prelude.{◌≡◌, ℕ, zero, suc, ◌+◌, ◌-◌, ◌*◌, ◌/◌, ◌%◌, ◌^◌, ◌<◌, ◌≤◌, Bool, if◌then◌else◌, List, [], ◌∷◌, ◌++◌, length, Option, Some, None, codes, ℤ, pos, FitsSigned}
+use Rattle.std.specs.Prelude.{ℕ, zero, suc, ◌+◌, ◌-◌, ◌*◌, ◌/◌, ◌%◌, ◌^◌, ◌≤◌, Bool, if◌then◌else◌, List, [], ◌∷◌, ◌++◌, length, Option, Some, None, codes, ℤ, pos, FitsSigned}
 use Rattle.std.specs.Int.{IsInRange, w64}
 use Rattle.std.specs.Str.Parse.{AllDigits, digits_value}
 use Rattle.jiff_core.specs.Calendar.{days_in_month}
-use Rattle.utc_text.specs.Civil.{IsWrittenYear, clock_units}
+use Rattle.utc_text.specs.Civil.{clock_units}
 use Rattle.utc_text.specs.Fields.{units_of}
 use Rattle.utc_text.specs.Reading.{YearMonthDay, Clock, Moment, Length, signed, civil_of}
 

@@ -1,6 +1,6 @@
 -- What a text says as a timestamp, and which timestamps are printed.
-use Rattle.std.specs.Prelude.{◌≡◌, ℕ, List, Option, Result, Ok, Err, ℤ, pos, ◌-ℤ◌, ◌*ℤ◌}
-use Rattle.utc_value.specs.declared.Kind.TheVariants.{Absolute, Relative}
+use Rattle.std.specs.Prelude.{◌≡◌, ℕ, List, Result, Ok, ℤ, pos, ◌-ℤ◌, ◌*ℤ◌}
+use Rattle.utc_value.specs.declared.Kind.TheVariants.{Absolute}
 use Rattle.utc_value.specs.Stamp.{Stamp, IsTdf, absolute_stamp, relative_stamp}
 use Rattle.utc_text.specs.declared.fault.TextFault.{TextFault}
 use Rattle.utc_text.specs.declared.calendar.Civil.{Civil}

@@ -1,4 +1,4 @@
-use Rattle.std.proofs.Common.{◌≡◌, ◌∙◌, arith, ◌-ℤ◌, pos, to_z, of_z, w64}
+use Rattle.std.proofs.Common.{◌≡◌, arith, ◌-ℤ◌, pos, to_z, of_z, w64}
 use Rattle.std.proofs.lemmas.Result.{IfOk-at_ok}
 use Rattle.jiff_core.specs.Date.{epoch_day}
 use Rattle.jiff_core.specs.declared.civil.date.Date.{Date}

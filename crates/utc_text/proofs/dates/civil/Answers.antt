@@ -1,6 +1,5 @@
-use Rattle.std.proofs.Common.{◌≡◌, rules, sym, ◌∙◌, FitsSigned, w64, to_z-of_z}
+use Rattle.std.proofs.Common.{rules, sym, ◌∙◌, FitsSigned, w64, to_z-of_z}
 use mir.Syntax.{w16}
-use Rattle.utc_value.specs.declared.Kind.TheVariants.{Absolute}
 use Rattle.utc_text.proofs.CivilAnswers.{succeeds, only, year, no_memory}
 use Rattle.utc_text.proofs.dates.civil.Goals as goal
 

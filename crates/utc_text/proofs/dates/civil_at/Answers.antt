@@ -1,7 +1,6 @@
-use Rattle.std.proofs.Common.{◌≡◌, ◌∙◌, refl, inr, rules, FitsSigned, w64, to_z-of_z, sym, subst, ℤ}
+use Rattle.std.proofs.Common.{◌∙◌, refl, inr, rules, FitsSigned, w64, to_z-of_z, sym, subst}
 use mir.Syntax.{w16, w128}
-use Rattle.utc_value.specs.Stamp.{IsTdf}
-use Rattle.utc_text.specs.Civil.{IsInYears, local_count}
+use Rattle.utc_text.specs.Civil.{IsInYears}
 use Rattle.utc_text.proofs.dates.civil_at.Goals as goal
 
 pub returns-in-Some-clause-value : goal.returns-in-Some-clause-value

@@ -1,4 +1,4 @@
-use Rattle.std.proofs.Common.{◌≡◌, rules, refl, ap, ◌∙◌, FitsSigned, w64, to_z-of_z}
+use Rattle.std.proofs.Common.{rules, refl, ◌∙◌, FitsSigned, w64, to_z-of_z}
 use mir.Syntax.{w16}
 use Rattle.utc_text.specs.Civil.{IsCivil}
 use Rattle.utc_text.proofs.dates.from_civil.Goals as goal

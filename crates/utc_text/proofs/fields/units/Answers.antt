@@ -1,4 +1,4 @@
-use Rattle.std.proofs.Common.{◌<◌, length, arith}
+use Rattle.std.proofs.Common.{length, arith}
 use Rattle.utc_text.proofs.DigitLemmas.{units_below}
 use Rattle.utc_text.proofs.fields.units.Goals as goal
 

@@ -1,4 +1,4 @@
-use Rattle.std.proofs.Common.{refl, ◌∙◌, ◌≡◌, ap, arith, ◌++◌, ◌∷◌, [], ◌<◌, ◌^◌}
+use Rattle.std.proofs.Common.{arith}
 use Rattle.utc_text.proofs.PrintLemmas.{pushed_decimal, pushed_digit}
 use Rattle.utc_text.proofs.printing.+push_decimal.Goals as goal
 use Rattle.utc_text.proofs.printing.+push_decimal.Goals.{then-number-ge10+in_ok-push_decimal, else-number-ge10}

@@ -1,4 +1,3 @@
-use Rattle.std.proofs.Common.{refl, ◌∙◌, ◌≡◌, ap, ◌++◌, ◌∷◌, []}
 use Rattle.utc_text.proofs.PrintLemmas.{pushed_digits}
 use Rattle.utc_text.proofs.printing.+push_digits.Goals as goal
 

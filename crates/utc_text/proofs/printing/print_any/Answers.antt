@@ -1,4 +1,4 @@
-use Rattle.std.proofs.Common.{◌≡◌, rules, refl, sym, ◌∙◌, FitsSigned, to_z-of_z}
+use Rattle.std.proofs.Common.{refl, FitsSigned, to_z-of_z}
 use Rattle.std.proofs.lemmas.Result.{err_from_is_err_and}
 use mir.Syntax.{w16}
 use Rattle.utc_text.specs.Texts.{IsPrintable}

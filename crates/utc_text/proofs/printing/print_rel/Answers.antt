@@ -1,4 +1,4 @@
-use Rattle.std.proofs.Common.{◌≡◌, rules, refl, sym, ◌∙◌, FitsSigned, w64, to_z-of_z}
+use Rattle.std.proofs.Common.{rules, sym, ◌∙◌, FitsSigned, w64, to_z-of_z}
 use Rattle.utc_text.proofs.PrintAnswers.{length_reads_back}
 use Rattle.utc_text.proofs.printing.print_rel.Goals as goal
 
