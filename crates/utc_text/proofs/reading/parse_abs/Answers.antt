@@ -1,0 +1,9 @@
+use Rattle.std.proofs.Common.{◌∙◌}
+use Rattle.utc_text.proofs.Laws.{absolute_only, absolute_found}
+use Rattle.utc_text.proofs.reading.parse_abs.Goals as goal
+
+pub returns-clause-only : goal.returns-clause-only
+returns-clause-only c = λ f h e. c.read_absolute.ensures ∙ absolute_only c.args.text.now f h e
+
+pub returns-clause-found : goal.returns-clause-found
+returns-clause-found c = absolute_found c.args.text.now c.read_absolute.result c.read_absolute.ensures

@@ -1,0 +1,6 @@
+pub mod Civil
+pub mod Fields
+pub mod Printing
+pub mod Reading
+pub mod Spelling
+pub mod Texts
