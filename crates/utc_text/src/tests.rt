@@ -200,36 +200,57 @@ fn the_first_wrong_field_of_a_relative_text(rt: HostRuntime) {
 }
 
 #[test]
-fn times_are_printed(rt: HostRuntime) -> Result<(), Fail> {
-    let epoch = Utc::absolute(EPOCH, Some(0), 0)?;
-    let text = print_gmt(rt.alloc(), epoch)?;
-    assert_eq!(rt;
-        text.as_slice(),
-        b"1970-01-01-00:00:00.0000000+00:00I0.0000000".as_slice()
-    );
-    let text = print_any(rt.alloc(), epoch, 60)?;
-    assert_eq!(rt;
-        text.as_slice(),
-        b"1970-01-01-01:00:00.0000000+01:00I0.0000000".as_slice()
-    );
-    let text = print_any(
-        rt.alloc(),
-        Utc::absolute(-1, Some(281_474_976_710_654), 0)?,
-        -90,
-    )?;
-    assert_eq!(rt;
-        text.as_slice(),
-        b"1582-10-14-22:29:59.9999999-01:30I28147497.6710654".as_slice()
-    );
-    let text = print_rel(rt.alloc(), Utc::relative(-10_000_000, None)?)?;
-    assert_eq!(rt; text.as_slice(), b"-00-00:00:01.0000000I-----".as_slice());
-    let text = print_rel(rt.alloc(), Utc::relative(i64::MIN, Some(15_000_000))?)?;
-    assert_eq!(rt;
-        text.as_slice(),
-        b"-10675199-02:48:05.4775808I1.5000000".as_slice()
-    );
-    let text = print_rel(rt.alloc(), Utc::relative(0, None)?)?;
-    assert_eq!(rt; text.as_slice(), b"00-00:00:00.0000000I-----".as_slice());
+fn absolute_times_are_printed(rt: HostRuntime) -> Result<(), Fail> {
+    let cases: [(i64, Option<u64>, i16, &str); 3] = [
+        (
+            EPOCH,
+            Some(0),
+            0,
+            "1970-01-01-00:00:00.0000000+00:00I0.0000000",
+        ),
+        (
+            EPOCH,
+            Some(0),
+            60,
+            "1970-01-01-01:00:00.0000000+01:00I0.0000000",
+        ),
+        (
+            -1,
+            Some(281_474_976_710_654),
+            -90,
+            "1582-10-14-22:29:59.9999999-01:30I28147497.6710654",
+        ),
+    ];
+    for (time, inaccuracy, tdf, text) in cases {
+        let printed = print_any(rt.alloc(), Utc::absolute(time, inaccuracy, 0)?, tdf)?;
+        assert_eq!(rt; printed.as_slice(), text.as_bytes(), "{text}");
+    }
+    Ok(())
+}
+
+#[test]
+fn in_utc_the_time_differential_factor_is_0(rt: HostRuntime) -> Result<(), Fail> {
+    let printed = print_gmt(rt.alloc(), Utc::absolute(EPOCH, Some(0), 60)?)?;
+    let text = "1970-01-01-00:00:00.0000000+00:00I0.0000000";
+    assert_eq!(rt; printed.as_slice(), text.as_bytes());
+    Ok(())
+}
+
+#[test]
+fn relative_times_are_printed(rt: HostRuntime) -> Result<(), Fail> {
+    let cases: [(i64, Option<u64>, &str); 3] = [
+        (-10_000_000, None, "-00-00:00:01.0000000I-----"),
+        (
+            i64::MIN,
+            Some(15_000_000),
+            "-10675199-02:48:05.4775808I1.5000000",
+        ),
+        (0, None, "00-00:00:00.0000000I-----"),
+    ];
+    for (time, inaccuracy, text) in cases {
+        let printed = print_rel(rt.alloc(), Utc::relative(time, inaccuracy)?)?;
+        assert_eq!(rt; printed.as_slice(), text.as_bytes(), "{text}");
+    }
     Ok(())
 }
 
@@ -288,17 +309,7 @@ fn civil_times_are_those_of_the_calendar(rt: HostRuntime) -> Result<(), Fail> {
 
 #[test]
 fn faults_say_what_is_wrong(rt: HostRuntime) -> Result<(), Fail> {
-    assert_eq!(rt;
-        format!(in rt.alloc(); "{}", fault(TextField::Month, 4))?.as_str(),
-        "wrong Month at octet 4"
-    );
-    assert_eq!(rt;
-        format!(in rt.alloc(); "{}", PrintFault::YearRange)?.as_str(),
-        "a year outside 1582 to 9999"
-    );
-    assert_eq!(rt;
-        format!(in rt.alloc(); "{}", CivilFault::TdfRange)?.as_str(),
-        "a time differential factor of a day or more"
-    );
+    let text = format!(in rt.alloc(); "{}", PrintFault::YearRange)?;
+    assert_eq!(rt; text.as_str(), "a year outside 1582 to 9999");
     Ok(())
 }
