@@ -6,7 +6,6 @@ use Rattle.slew_clock.specs.declared.rates.Rates.{Rates}
 use Rattle.dts_capture.specs.declared.line.LineCause.{LineCause}
 use Rattle.dts_capture.specs.declared.line.LineCause.TheVariants as cause
 use Rattle.sync_rules.specs.History.{History, log_of}
-use Rattle.sync_rules.specs.Rules.{IsRuled}
 use Rattle.sync_rules.specs.Safety.{IsSafe}
 use Rattle.dts_program.specs.Capture.{Capture, Begins, RefusedLine, IsRefused, history_of}
 use Rattle.dts_program.specs.declared.status.Status.{Status}
@@ -66,8 +65,18 @@ IsLogAt (status.ReadFault which) text history = BeginsWith text (log_of history)
 IsLogAt (status.WriteFault which) text history = BeginsWith text (log_of history)
 IsLogAt status.NoMemory text history = BeginsWith text (log_of history)
 
--- what was written is of a safe history, or nothing before the start
-pub record WroteSafely (s : Status) (before now : Option (List ℕ)) : Type 0 where
+-- The first of these lines are a capture whose history is safe, and the text is its log, or where the replay broke off the beginning of it.
+pub record IsSafeLog (rates : Rates) (texts : List (List ℕ)) (s : Status) (text : List ℕ) : Type 0 where
+  pub front : List (List ℕ)
+  pub rest : List (List ℕ)
+  pub all : texts ≡ front ++ rest
+  pub capture : Capture
+  pub begins : Begins front (Some capture)
+  pub safe : IsSafe (history_of rates capture)
+  pub log : IsLogAt s text (history_of rates capture)
+
+-- what was written for these lines is of a safe history, or nothing before the start
+pub record WroteSafely (rates : Rates) (texts : List (List ℕ)) (s : Status) (before now : Option (List ℕ)) : Type 0 where
   pub text : List ℕ
   pub wrote : Wrote before now text
-  pub safe : (text ≡ []) ⊎ ((history : History) × IsRuled history × IsSafe history × IsLogAt s text history)
+  pub safe : (text ≡ []) ⊎ IsSafeLog rates texts s text

@@ -99,7 +99,7 @@ pub fn replay<I: Source, O: Sink>(
     ensures no_usage { result ≡ Status.Usage → ⊥ }
 
     // What was written is the log of a safe history, or the beginning of one.
-    ensures safe { (octets : List ℕ) → I.left input.old ≡ Some octets → WroteSafely result (O.written output.old) (O.written output.new) }
+    ensures safe { (octets : List ℕ) → I.left input.old ≡ Some octets → WroteSafely rates (lines_of octets) result (O.written output.old) (O.written output.new) }
 {
     match replay_lines(alloc, rates, input, output) {
         Ok(()) => Status::Done,

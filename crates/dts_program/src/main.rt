@@ -18,9 +18,9 @@ use crate::status::Status;
 use dts_base::{MemoryLink, MemoryOscillator, MemorySink, MemoryWords, NoMemory};
 use dts_edge::{FileSource, ReaderSource, WriterSink};
 use std::alloc::Global;
+use std::env;
 use std::io::{Stdin, Stdout};
 use std::process::ExitCode;
-use std::{env, io};
 
 /// The roster file, in the current folder.
 const ROSTER: &str = "dts.toml";
@@ -48,10 +48,15 @@ fn sides(alloc: Global) -> Result<Vec<Side>, NoMemory>
     Ok(sides)
 }
 
-// The words after the program's name.
-fn words(rt: &HostRuntime) -> io::Result<Vec<String>> {
-    let words = env::args(rt)?.skip(1).collect(rt.alloc())?;
-    Ok(words)
+// The words after the program's name. Words that are no text are no command line.
+fn words(rt: &HostRuntime) -> Result<Vec<String>, Status> {
+    let Ok(words) = env::args(rt) else {
+        return Err(Status::Usage);
+    };
+    match words.skip(1).collect(rt.alloc()) {
+        Ok(words) => Ok(words),
+        Err(_) => Err(Status::NoMemory),
+    }
 }
 
 /// The real standard streams and roster file, and all else in memory.
@@ -84,7 +89,7 @@ fn real_outside(rt: &HostRuntime) -> Result<Real<'_>, NoMemory>
 fn main(rt: HostRuntime) -> ExitCode {
     let status = match (words(&rt), real_outside(&rt)) {
         (Ok(words), Ok(mut out)) => run(&rt, rt.alloc(), words.as_slice(), &mut out),
-        (Err(_), _) => Status::Usage,
+        (Err(status), _) => status,
         (_, Err(NoMemory)) => Status::NoMemory,
     };
     if status != Status::Done {

@@ -78,7 +78,7 @@ pub fn run<
     // In every honest world each reading that was written contains true time, and readings never go back
     // but across a step that the log names: the log is that of a safe history.
     ensures safe { map string_bytes words.now ≡ codes "replay" ∷ [] → (octets : List ℕ) → I.left out.old.input ≡ Some octets →
-        WroteSafely result (O.written out.old.output) (O.written out.new.output) }
+        WroteSafely usual_rates (lines_of octets) result (O.written out.old.output) (O.written out.new.output) }
 
     // A valid capture is never refused.
     ensures complete { map string_bytes words.now ≡ codes "replay" ∷ [] → (octets : List ℕ) (capture : Capture) → I.left out.old.input ≡ Some octets → IsCapture octets capture →

@@ -16,3 +16,6 @@ pub use plain::plain_log;
 pub fn every_history_is_safe()
     ensures safe { (history : History) → IsRuled history → IsSafe history }
 {}
+
+#[cfg(test)]
+mod tests;

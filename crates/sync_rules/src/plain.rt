@@ -1,6 +1,8 @@
-ghost use Rattle.std.specs.Prelude.{◌≡◌, ◌^◌, ◌≤◌, ◌≤ℤ◌, pos, [], ◌∷◌, All, IfOk};
+ghost use Rattle.std.specs.Prelude.{◌≡◌, ◌^◌, ◌<◌, ◌≤◌, max, ◌≤ℤ◌, pos, [], ◌∷◌, All, IfOk};
 ghost use Rattle.std.specs.String.{string_bytes};
 ghost use Rattle.slew_clock.specs.Record.{IsSound};
+ghost use Rattle.slew_clock.specs.Line.{line};
+ghost use Rattle.slew_clock.specs.Reading.{inaccuracy_of};
 ghost use Rattle.slew_clock.specs.Started.{StartsWithin};
 ghost use Rattle.slew_clock.specs.declared.rates.Rates.{Rates};
 ghost use Rattle.sync_rules.specs.History.{Begun, Start, Lane, osc_of, first_record, log_of};
@@ -43,16 +45,7 @@ fn action_of(rates: &Rates, rec: &ClockRecord, before: &[Event], event: Event) -
     ensures action { (start : Start) → first_record start ≡ rec.now → actions_of (extended (Begun rates.now start) before.now) event ≡ result ∷ [] }
 {
     let osc = osc_of(event);
-    let floor = last_osc(rec, before).max(rec.born);
-    let kind = match read_at(rates, rec, osc) {
-        Ok(reading) if floor <= osc => NoteKind::Reading {
-            value: reading.value,
-            inaccuracy: reading.inaccuracy,
-            step: reading.step,
-            number: reading.number,
-        },
-        _ => NoteKind::Regressed { floor },
-    };
+    let kind = read_kind(rates, rec, last_osc(rec, before), osc);
     Action::Log {
         note: Note {
             osc,
@@ -62,13 +55,32 @@ fn action_of(rates: &Rates, rec: &ClockRecord, before: &[Event], event: Event) -
     }
 }
 
+// What a read notes, where the last live one before it was at this oscillator reading.
+fn read_kind(rates: &Rates, rec: &ClockRecord, last: u64, osc: u64) -> NoteKind
+    requires sound { IsSound rates.now rec.now }
+    requires osc { osc ≤ 2 ^ 60 }
+    ensures live { max last rec.now.born ≤ osc → result ≡ NoteKind.Reading (line rates.now rec.now osc) (inaccuracy_of rates.now rec.now osc) rec.now.step rec.now.number }
+    ensures regressed { osc < max last rec.now.born → result ≡ NoteKind.Regressed (max last rec.now.born) }
+{
+    let floor = last.max(rec.born);
+    match read_at(rates, rec, osc) {
+        Ok(reading) if floor <= osc => NoteKind::Reading {
+            value: reading.value,
+            inaccuracy: reading.inaccuracy,
+            step: reading.step,
+            number: reading.number,
+        },
+        _ => NoteKind::Regressed { floor },
+    }
+}
+
 // The oscillator reading of the last live read.
 fn last_osc(rec: &ClockRecord, before: &[Event]) -> u64
     ensures last { (rates : Rates) (start : Start) → first_record start ≡ rec.now → result ≡ last_osc (Lane 0) (extended (Begun rates start) before.now) }
 {
-    match before {
-        [] => 0,
-        [earlier @ .., event] => {
+    match before.split_last() {
+        None => 0,
+        Some((event, earlier)) => {
             let last = last_osc(rec, earlier);
             let osc = osc_of(*event);
             if last.max(rec.born) <= osc { osc } else { last }
