@@ -1,6 +1,6 @@
 -- The lines of a piece, one after another.
-use Rattle.std.proofs.Common.{◌≡◌, inl, inr, ℕ, ◌+◌, ◌<◌, List, [], ◌∷◌, ◌++◌, length, Option, Some, None, Result, Ok, Err, refl, sym, ap, ◌∙◌, subst, append_assoc, arith}
-use Rattle.std.specs.Prelude.{IfOk, IfErr, OnOk}
+use Rattle.std.proofs.Common.{◌≡◌, inl, ℕ, ◌<◌, List, [], ◌∷◌, ◌++◌, length, Option, Result, Ok, Err, refl, sym, ap, ◌∙◌, subst, append_assoc, arith}
+use Rattle.std.specs.Prelude.{IfErr, OnOk}
 use Rattle.std.proofs.lemmas.List.{append-nil}
 use Rattle.std.proofs.lemmas.Result.{MatchResult-from_both, IfOk-weaker, IfErr-weaker}
 use Rattle.slew_clock.specs.declared.rates.Rates.{Rates}
@@ -8,7 +8,7 @@ use Rattle.dts_program.specs.declared.replay.Replay.{Replay}
 use Rattle.dts_program.specs.declared.status.Status.{Status}
 use Rattle.dts_program.specs.declared.status.Status.TheVariants as status
 use Rattle.dts_program.specs.Lines.{IsLine, AreLines, with_feeds, last_line}
-use Rattle.dts_program.specs.Capture.{Capture, RefusedLine, LacksStart}
+use Rattle.dts_program.specs.Capture.{Capture, RefusedLine}
 use Rattle.dts_program.specs.Output.{IsPart, Stops, Replays, output_of}
 use Rattle.dts_program.specs.Progress.{Stands, HasStopped, HasReplayed, Takes}
 use Rattle.dts_program.proofs.LineFacts.{AreLines-append, with_feeds-append}

@@ -11,7 +11,7 @@ use Rattle.dts_program.specs.declared.status.Status.{Status}
 use Rattle.dts_program.specs.declared.status.Status.TheVariants as status
 use Rattle.dts_program.specs.declared.status.SourceName.{SourceName}
 use Rattle.dts_program.specs.declared.status.SinkName.{SinkName}
-use Rattle.dts_program.specs.Capture.{Capture, Begins, RefusedLine, IsRefused, history_of}
+use Rattle.dts_program.specs.Capture.{Capture, Begins, IsRefused, history_of}
 use Rattle.dts_program.specs.Output.{output_of, IsPart, Replays, IsLogAt, IsSafeLog, WroteSafely}
 use Rattle.dts_program.specs.Progress.{HasReplayed}
 use Rattle.dts_program.proofs.CaptureFacts.{begins_front}

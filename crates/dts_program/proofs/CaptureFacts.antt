@@ -1,11 +1,9 @@
 -- Laws of what lines spell.
-use Rattle.std.proofs.Common.{◌≡◌, ◌⊎◌, inl, inr, ℕ, ◌+◌, ◌^◌, ◌<◌, ◌≤◌, List, [], ◌∷◌, ◌++◌, length, map, Option, Some, None, refl, sym, ap, ◌∙◌, subst, append_assoc, arith}
-use Rattle.std.proofs.lemmas.List.{length-append, append-nil}
+use Rattle.std.proofs.Common.{◌≡◌, ℕ, List, [], ◌∷◌, ◌++◌, map, Option, Some, None, refl, sym, ap, ◌∙◌, arith}
+use Rattle.std.proofs.lemmas.List.{length-append}
 use Rattle.dts_capture.specs.declared.line.Event.{Event}
 use Rattle.dts_capture.specs.declared.line.Line.{Line}
 use Rattle.dts_capture.specs.declared.line.Line.TheVariants as line
-use Rattle.dts_capture.specs.Capture.{Spells}
-use Rattle.sync_rules.specs.History.{History, Begun, Start}
 use Rattle.dts_program.specs.Capture.{Capture, start_line, event_line, said_by, said, SpellEach, Begins}
 
 -- more lines at the end

@@ -1,9 +1,7 @@
 -- Which lines a replay takes, and which it refuses.
-use Rattle.std.proofs.Common.{◌≡◌, ℕ, ◌+◌, ◌^◌, ◌<◌, ◌≤◌, List, [], ◌∷◌, ◌++◌, length, Option, Some, None, refl, sym, ap, ◌∙◌, subst, arith}
+use Rattle.std.proofs.Common.{◌≡◌, ℕ, ◌+◌, ◌^◌, ◌<◌, List, [], ◌∷◌, ◌++◌, Option, Some, None, refl, sym, subst}
 use Rattle.slew_clock.specs.declared.rates.Rates.{Rates}
 use Rattle.dts_capture.specs.declared.line.Event.{Event}
-use Rattle.dts_capture.specs.declared.line.Line.{Line}
-use Rattle.dts_capture.specs.declared.line.Line.TheVariants as line
 use Rattle.dts_capture.specs.declared.action.Action.{Action}
 use Rattle.dts_capture.specs.declared.action.Action.TheVariants as action
 use Rattle.dts_capture.specs.Capture.{Spells}

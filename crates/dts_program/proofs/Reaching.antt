@@ -1,5 +1,5 @@
 -- How far the input was read.
-use Rattle.std.proofs.Common.{◌≡◌, ◌⊎◌, inl, inr, ℕ, ◌+◌, ◌-◌, ◌*◌, ◌^◌, ◌<◌, ◌≤◌, List, [], ◌∷◌, ◌++◌, length, take, Option, Some, None, Result, Ok, Err, refl, sym, ap, ◌∙◌, subst, append_assoc, arith}
+use Rattle.std.proofs.Common.{◌≡◌, inl, ℕ, ◌+◌, ◌^◌, ◌<◌, List, [], ◌∷◌, ◌++◌, length, take, Option, Some, None, Result, Ok, Err, refl, sym, ap, ◌∙◌, subst, append_assoc, arith}
 use Rattle.std.proofs.lemmas.List.{append-nil, length-append}
 use Rattle.dts_base.specs.Told.{Told}
 use Rattle.dts_base.specs.Streams.{Reads}
@@ -12,10 +12,10 @@ use Rattle.dts_program.specs.declared.status.Status.TheVariants as status
 use Rattle.dts_program.specs.declared.status.SourceName.TheVariants as source
 use Rattle.dts_program.specs.Lines.{lines_of, IsLine, AreLines, with_feeds, last_line}
 use Rattle.dts_program.specs.Capture.{Capture, Begins, RefusedLine}
-use Rattle.dts_program.specs.Output.{IsPart, Stops, Replays, output_of, Wrote}
+use Rattle.dts_program.specs.Output.{IsPart, Replays, output_of}
 use Rattle.dts_program.specs.Standing.{StandsAt, IsStanding}
-use Rattle.dts_program.specs.Progress.{Stands, HasStopped, HasReplayed, HasRead, Takes}
-use Rattle.dts_program.proofs.LineFacts.{lines_of-lines, lines_of-last, lines_of-nothing, begins_first, AreLines-append, with_feeds-append}
+use Rattle.dts_program.specs.Progress.{Stands, HasReplayed, HasRead, Takes}
+use Rattle.dts_program.proofs.LineFacts.{lines_of-lines, lines_of-last, lines_of-nothing, begins_first, AreLines-append}
 use Rattle.dts_program.proofs.Refusing.{refused_unspelled}
 use Rattle.dts_program.proofs.Advancing.{part_here, stopped_more, all_then}
 

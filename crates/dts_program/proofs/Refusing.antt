@@ -1,10 +1,8 @@
 -- Lines that no capture goes on with.
-use Rattle.std.proofs.Common.{◌≡◌, ℕ, ◌+◌, ◌^◌, ◌<◌, ◌≤◌, List, [], ◌∷◌, ◌++◌, length, map, Option, Some, None, refl, sym, ap, ◌∙◌, subst, arith}
-use Rattle.std.proofs.lemmas.List.{length-append, append-nil}
-use Rattle.dts_base.specs.declared.interval.Interval.{Interval}
+use Rattle.std.proofs.Common.{◌≡◌, ℕ, ◌+◌, ◌^◌, ◌≤◌, List, [], ◌∷◌, ◌++◌, length, map, Option, Some, None, refl, sym, ap, ◌∙◌, arith}
+use Rattle.std.proofs.lemmas.List.{length-append}
 use Rattle.dts_capture.specs.declared.line.Event.{Event}
 use Rattle.dts_capture.specs.declared.line.Line.{Line}
-use Rattle.dts_capture.specs.declared.line.Line.TheVariants as line
 use Rattle.dts_capture.specs.Capture.{Spells}
 use Rattle.dts_capture.proofs.Unique.{Spells-unique}
 use Rattle.sync_rules.specs.History.{Start}

@@ -1,16 +1,14 @@
 -- A read of the node's clock, by the rules.
-use Rattle.std.proofs.Common.{◌≡◌, ℕ, ◌+◌, ◌<◌, ◌≤◌, Bool, true, false, List, [], ◌∷◌, None, refl, sym, ap, ◌∙◌, subst, arith}
-use Rattle.std.specs.Prelude.{nat_le}
+use Rattle.std.proofs.Common.{◌≡◌, ℕ, ◌<◌, ◌≤◌, true, false, [], ◌∷◌, None, refl, sym, ap, ◌∙◌, subst, arith}
 use Rattle.std.proofs.lemmas.Bool.{leb-true, leb-false}
 use Rattle.slew_clock.specs.Line.{line}
 use Rattle.slew_clock.specs.Reading.{inaccuracy_of}
-use Rattle.slew_clock.specs.Record.{IsSound}
 use Rattle.dts_capture.specs.declared.line.Event.{Event}
 use Rattle.dts_capture.specs.declared.line.Event.TheVariants as event
 use Rattle.dts_capture.specs.declared.action.Action.TheVariants as action
 use Rattle.dts_capture.specs.declared.action.NoteKind.{NoteKind}
 use Rattle.dts_capture.specs.declared.action.NoteKind.TheVariants as note
-use Rattle.sync_rules.specs.History.{History, Then, Lane, osc_of, published, current_record}
+use Rattle.sync_rules.specs.History.{History, Lane, osc_of, current_record}
 use Rattle.sync_rules.specs.Rules.{actions_of, followed_by, floor_at, floor_of, is_live, last_osc}
 use Rattle.sync_rules.proofs.Readings.{last_osc_live, last_osc_regressed, actions_live, actions_regressed, published_none}
 use Rattle.dts_program.specs.declared.node.Node.{Node}

@@ -1,5 +1,5 @@
 -- What one more line makes of a replay.
-use Rattle.std.proofs.Common.{◌≡◌, ℕ, ◌+◌, ◌^◌, ◌<◌, ◌≤◌, List, [], ◌∷◌, ◌++◌, length, map, Option, Some, None, refl, sym, ap, ◌∙◌, subst, append_assoc, arith}
+use Rattle.std.proofs.Common.{◌≡◌, ℕ, ◌+◌, ◌^◌, ◌<◌, List, [], ◌∷◌, ◌++◌, length, Option, Some, None, refl, sym, ap, ◌∙◌, subst, arith}
 use Rattle.std.specs.Prelude.{flat_map}
 use Rattle.std.proofs.lemmas.List.{length-append, append-nil, map-append}
 use Rattle.slew_clock.specs.declared.rates.Rates.{Rates}
@@ -10,14 +10,14 @@ use Rattle.dts_capture.specs.declared.action.Action.{Action}
 use Rattle.dts_capture.specs.declared.action.Action.TheVariants as action
 use Rattle.dts_capture.specs.Capture.{Spells}
 use Rattle.dts_capture.specs.Log.{log_text}
-use Rattle.sync_rules.specs.History.{History, Begun, Then, Start, log_of, first_record}
+use Rattle.sync_rules.specs.History.{History, Begun, Start, log_of, first_record}
 use Rattle.sync_rules.specs.Rules.{actions_of, followed_by, extended}
 use Rattle.dts_program.specs.declared.node.Node.{Node}
 use Rattle.dts_program.specs.declared.replay.Replay.{Replay}
-use Rattle.dts_program.specs.Capture.{Capture, start_line, event_line, said_by, said, SpellEach, Begins, history_of}
+use Rattle.dts_program.specs.Capture.{Capture, start_line, event_line, said_by, said, Begins, history_of}
 use Rattle.dts_program.specs.Output.{output_of}
-use Rattle.dts_program.specs.Standing.{StandsFor, NodeStands, StandsAt, Took, after_line, logged}
-use Rattle.dts_program.proofs.CaptureFacts.{SpellEach-append, said-append, divides}
+use Rattle.dts_program.specs.Standing.{StandsFor, StandsAt, Took, after_line}
+use Rattle.dts_program.proofs.CaptureFacts.{SpellEach-append, said-append}
 
 -- the texts with one more
 length-more : (texts : List (List ℕ)) (text : List ℕ) → length (texts ++ text ∷ []) ≡ length texts + 1

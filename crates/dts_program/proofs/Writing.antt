@@ -1,8 +1,6 @@
 -- What is written as a replay goes on, and where it stops.
-use Rattle.std.proofs.Common.{◌≡◌, ◌⊎◌, inl, inr, ℕ, ◌+◌, List, [], ◌∷◌, ◌++◌, length, Option, Some, None, refl, sym, ap, ◌∙◌, subst, append_assoc}
+use Rattle.std.proofs.Common.{◌≡◌, inl, inr, ℕ, ◌+◌, List, [], ◌∷◌, ◌++◌, Option, Some, None, refl, sym, ap, ◌∙◌, subst, append_assoc}
 use Rattle.std.proofs.lemmas.List.{append-nil}
-use Rattle.dts_base.specs.Told.{Told}
-use Rattle.dts_base.specs.Streams.{BeginsWith}
 use Rattle.dts_base.proofs.ToldFacts.{Told-then}
 use Rattle.slew_clock.specs.declared.rates.Rates.{Rates}
 use Rattle.dts_capture.specs.declared.action.Action.{Action}
@@ -11,8 +9,7 @@ use Rattle.dts_capture.specs.Log.{log_text}
 use Rattle.dts_program.specs.declared.replay.Replay.{Replay}
 use Rattle.dts_program.specs.declared.status.Status.{Status}
 use Rattle.dts_program.specs.declared.status.Status.TheVariants as status
-use Rattle.dts_program.specs.declared.status.SinkName.TheVariants as sink
-use Rattle.dts_program.specs.Capture.{Capture, Begins}
+use Rattle.dts_program.specs.Capture.{Capture}
 use Rattle.dts_program.specs.Output.{output_of, IsPart, Stops, Wrote}
 use Rattle.dts_program.specs.Standing.{StandsAt, IsStanding, Took, GoesNoFurther, logged}
 use Rattle.dts_program.specs.Progress.{IsWriteEnd, WrotePart, Stands, HasStopped}

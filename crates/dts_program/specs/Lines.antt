@@ -1,5 +1,5 @@
 -- The lines of octets. Our own choice.
-use Rattle.std.specs.Prelude.{◌≡◌, ◌≢◌, ℕ, List, [], ◌∷◌, ◌++◌, flat_map, ◌==◌, if◌then◌else◌}
+use Rattle.std.specs.Prelude.{◌≢◌, ℕ, List, [], ◌∷◌, ◌++◌, ◌==◌, if◌then◌else◌}
 
 -- the octet in front of the first line
 abbrev pub with_first : ℕ → List (List ℕ) → List (List ℕ)

@@ -1,6 +1,6 @@
 -- Histories by their events, for the plain program.
-use Rattle.std.proofs.Common.{◌≡◌, ℕ, ◌+◌, ◌<◌, ◌≤◌, max, Bool, true, false, cond, length, take, get_or, List, [], ◌∷◌, ◌++◌, None, refl, sym, ap, ◌∙◌, subst, arith}
-use Rattle.std.specs.Prelude.{nat_le, flat_map}
+use Rattle.std.proofs.Common.{◌≡◌, ℕ, ◌+◌, ◌<◌, ◌≤◌, max, true, false, length, take, get_or, List, [], ◌∷◌, ◌++◌, None, refl, sym, ap, ◌∙◌, arith}
+use Rattle.std.specs.Prelude.{flat_map}
 use Rattle.std.proofs.lemmas.List.{append-nil, take_more}
 use Rattle.std.proofs.lemmas.Bool.{leb-true, leb-false}
 use Rattle.slew_clock.specs.declared.rates.Rates.{Rates}
@@ -12,7 +12,7 @@ use Rattle.dts_capture.specs.declared.line.Event.TheVariants as event
 use Rattle.dts_capture.specs.declared.action.Action.TheVariants as action
 use Rattle.dts_capture.specs.declared.action.NoteKind.{NoteKind}
 use Rattle.dts_capture.specs.declared.action.NoteKind.TheVariants as note
-use Rattle.sync_rules.specs.History.{History, Begun, Then, Lane, Start, osc_of, start_of, rates_of, first_record, current_record, log_of}
+use Rattle.sync_rules.specs.History.{History, Begun, Lane, Start, osc_of, start_of, rates_of, first_record, current_record, log_of}
 use Rattle.sync_rules.specs.Rules.{actions_of, followed_by, extended, floor_of, floor_at, is_live, last_osc, IsRuled}
 use Rattle.sync_rules.proofs.Readings.{current_first, last_osc_live, last_osc_regressed, actions_live, actions_regressed}
 use Rattle.dts_capture.specs.declared.action.Action.{Action}

@@ -1,5 +1,5 @@
 -- What histories of reads have: one record, readings in the order of the oscillator.
-use Rattle.std.proofs.Common.{◌≡◌, ◌⊎◌, inl, inr, ℕ, zero, suc, ◌+◌, ◌<◌, ◌≤◌, max, Bool, true, false, cond, List, [], ◌∷◌, Option, Some, None, refl, sym, ap, ◌∙◌, subst, arith}
+use Rattle.std.proofs.Common.{◌≡◌, ◌⊎◌, inl, inr, ℕ, zero, suc, ◌<◌, ◌≤◌, Bool, true, false, cond, List, [], ◌∷◌, Some, refl, sym, ap, ◌∙◌, subst, arith}
 use Rattle.std.specs.Prelude.{Contains, nat_le}
 use Rattle.std.proofs.lemmas.Bool.{leb-true, eqb-true}
 use Rattle.slew_clock.specs.declared.rates.Rates.{Rates}
@@ -9,9 +9,9 @@ use Rattle.slew_clock.specs.Reading.{inaccuracy_of}
 use Rattle.dts_capture.specs.declared.line.Event.{Event}
 use Rattle.dts_capture.specs.declared.line.Event.TheVariants as event
 use Rattle.dts_capture.specs.declared.action.Action.{Action}
-use Rattle.sync_rules.specs.History.{History, Begun, Then, Part, Sync, Lane, Start, part_of, osc_of, rates_of, start_of, first_record, published, current_record, last_position}
+use Rattle.sync_rules.specs.History.{History, Begun, Then, Lane, rates_of, start_of, first_record, published, current_record, last_position}
 use Rattle.sync_rules.specs.Rules.{last_osc, floor_of, is_live, live_actions, regressed_actions, actions_of, IsRuled}
-use Rattle.sync_rules.specs.World.{Mark, mark_at}
+use Rattle.sync_rules.specs.World.{mark_at}
 use Rattle.sync_rules.specs.Safety.{Shown, Gives, LogsReading, actions_at}
 
 -- which of two things a test chose

@@ -1,21 +1,21 @@
 -- Every history of reads is safe.
-use Rattle.std.proofs.Common.{◌≡◌, ℕ, ◌+◌, ◌-◌, ◌<◌, ◌≤◌, cond, Option, Some, None, refl, sym, ap, ◌∙◌, subst, arith, add-one}
+use Rattle.std.proofs.Common.{◌≡◌, ℕ, ◌-◌, ◌<◌, cond, Option, Some, None, refl, sym, ap, ◌∙◌, subst, arith, add-one}
 use Rattle.std.specs.Prelude.{ℤ, pos, ◌+ℤ◌, ◌-ℤ◌, ◌≤ℤ◌, IfSome}
 use Rattle.std.proofs.lemmas.Int.{ints}
 use Rattle.std.proofs.Math.Dec.{eqb, eqb-zero-suc}
 use Rattle.dts_base.specs.declared.interval.Interval.{Interval}
 use Rattle.slew_clock.specs.declared.rates.Rates.{Rates}
 use Rattle.slew_clock.specs.Line.{line}
-use Rattle.slew_clock.specs.Elapsed.{least, most, carried}
+use Rattle.slew_clock.specs.Elapsed.{least, most}
 use Rattle.slew_clock.specs.Reading.{interval_of, inaccuracy_of}
 use Rattle.slew_clock.specs.Started.{started}
 use Rattle.slew_clock.proofs.ReadingLaws.{reading_contains}
 use Rattle.slew_clock.proofs.StartLaws.{started_line_never_falls}
-use Rattle.sync_rules.specs.History.{History, Begun, Then, Lane, Sync, rates_of, start_of, first_record, last_position, part_of, osc_of}
+use Rattle.sync_rules.specs.History.{History, Begun, Then, Sync, rates_of, start_of, last_position, part_of, osc_of}
 use Rattle.sync_rules.specs.Rules.{IsRuled}
-use Rattle.sync_rules.specs.World.{World, Mark, mark_at, MayElapse, IsRightFirst, IsHonest}
+use Rattle.sync_rules.specs.World.{World, mark_at, MayElapse, IsHonest}
 use Rattle.sync_rules.specs.Safety.{Shown, Gives, ContainsTime, FollowsOn, IsSafe}
-use Rattle.sync_rules.proofs.Readings.{shown_by, read_at, read_order}
+use Rattle.sync_rules.proofs.Readings.{read_at, read_order}
 
 if_some : {A : Type 0} (o : Option A) (P : A → Type 0) → ((x : A) → o ≡ Some x → P x) → IfSome o P
 if_some None P h = tt

@@ -1,5 +1,5 @@
 -- The history of a node: what happened to it, and the actions that it gave. Our own choice.
-use Rattle.std.specs.Prelude.{ℕ, ℤ, ◌+◌, List, [], ◌∷◌, ◌++◌, flat_map, Bool, true, false, ◌==◌, Option, Some, None, if◌then◌else◌}
+use Rattle.std.specs.Prelude.{ℕ, ℤ, ◌+◌, List, [], ◌∷◌, ◌++◌, flat_map, Bool, true, false, ◌==◌, Option}
 use Rattle.dts_base.specs.declared.interval.Interval.{Interval}
 use Rattle.slew_clock.specs.declared.rates.Rates.{Rates}
 use Rattle.slew_clock.specs.declared.record.ClockRecord.{ClockRecord}

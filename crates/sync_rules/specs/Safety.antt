@@ -1,12 +1,12 @@
 -- Safe histories: readings contain true time, and go back only across a step that the log names. Our own choice.
-use Rattle.std.specs.Prelude.{◌≡◌, ℕ, ℤ, pos, ◌+◌, ◌<◌, ◌-ℤ◌, ◌+ℤ◌, ◌≤◌, ◌≤ℤ◌, ◌==◌, List, [], ◌∷◌, Contains, Option, Some, None, IfSome, if◌then◌else◌}
+use Rattle.std.specs.Prelude.{◌≡◌, ℕ, ℤ, pos, ◌+◌, ◌<◌, ◌-ℤ◌, ◌+ℤ◌, ◌≤◌, ◌≤ℤ◌, ◌==◌, List, [], Contains, Option, Some, IfSome, if◌then◌else◌}
 use Rattle.dts_capture.specs.declared.action.Action.{Action}
 use Rattle.dts_capture.specs.declared.action.Action.TheVariants as action
 use Rattle.dts_capture.specs.declared.action.NoteKind.{NoteKind}
 use Rattle.dts_capture.specs.declared.action.NoteKind.TheVariants as note
-use Rattle.sync_rules.specs.History.{History, Begun, Then, Part, Sync, Lane}
+use Rattle.sync_rules.specs.History.{History, Begun, Then, Lane}
 use Rattle.sync_rules.specs.History.{last_position}
-use Rattle.sync_rules.specs.World.{World, IsHonest, Mark, mark_at}
+use Rattle.sync_rules.specs.World.{World, IsHonest, mark_at}
 
 -- the actions that a position gave
 abbrev pub actions_at : History → ℕ → List Action

@@ -1,4 +1,4 @@
-use Rattle.std.proofs.Common.{◌≡◌, ℕ, ◌+◌, ◌-◌, ◌*◌, ◌^◌, ◌≤◌, List, [], length, Option, Some, vec_len}
+use Rattle.std.proofs.Common.{◌≡◌, ℕ, ◌+◌, ◌-◌, ◌*◌, ◌^◌, ◌≤◌, List, [], length, Option, Some}
 use Rattle.slew_clock.specs.declared.rates.Rates.{Rates}
 use Rattle.dts_program.specs.Lines.{IsLine}
 use Rattle.dts_program.specs.Standing.{IsStanding}

@@ -1,6 +1,5 @@
-use Rattle.std.proofs.Common.{◌≡◌, ℕ, List, [], ◌++◌, Option, Some, Err, refl, sym, ap, ◌∙◌, subst}
+use Rattle.std.proofs.Common.{◌∙◌}
 use Rattle.std.proofs.lemmas.Result.{err_from_is_err_and}
-use Rattle.dts_program.specs.Progress.{Finishes}
 use Rattle.dts_program.proofs.Reaching.{begun_stands, nothing_read, lines_ended}
 use Rattle.dts_program.proofs.command.replay_lines.Goals as goal
 

@@ -1,4 +1,4 @@
-use Rattle.std.proofs.Common.{◌≡◌, ℕ, List, [], ◌∷◌, length, map, get_or, refl, sym, ap, ◌∙◌, arith, Decides}
+use Rattle.std.proofs.Common.{◌≡◌, List, [], ◌∷◌, length, map, get_or, sym, ap, ◌∙◌, arith}
 use Rattle.std.specs.String.{string_bytes}
 use lib.Pointwise.{bytes_decides}
 use Rattle.dts_program.proofs.outside.run.Goals as goal

@@ -1,11 +1,9 @@
-use Rattle.std.proofs.Common.{◌≡◌, ℕ, ℤ, List, [], ◌++◌, take, w64, to_z, of_z, refl, sym, ap, ◌∙◌, subst, arith}
-use Rattle.slew_clock.specs.Started.{started}
+use Rattle.std.proofs.Common.{ℕ, List, ◌++◌, w64, to_z, of_z, sym, ap, ◌∙◌, arith}
 use Rattle.slew_clock.specs.declared.record.ClockRecord.{ClockRecord}
 use Rattle.dts_capture.specs.declared.action.Action.TheVariants as action
 use Rattle.dts_capture.specs.declared.line.Event.TheVariants as event
 use Rattle.dts_capture.specs.Log.{log_text}
 use Rattle.sync_rules.specs.History.{Begun, Start}
-use Rattle.sync_rules.specs.Rules.{extended}
 use Rattle.sync_rules.proofs.PlainFacts.{log_of-begun, log_of-next}
 use Rattle.sync_rules.proofs.plain.plain_log.Goals as goal
 

@@ -1,9 +1,7 @@
-use Rattle.std.proofs.Common.{◌≡◌, ℕ, List, [], ◌∷◌, ◌++◌, Option, Err, refl, sym, ap, ◌∙◌, subst, arith}
+use Rattle.std.proofs.Common.{sym, ◌∙◌, subst}
 use Rattle.std.proofs.lemmas.Result.{err_from_is_err_and}
-use Rattle.slew_clock.specs.declared.rates.Rates.{Rates}
 use Rattle.dts_program.specs.declared.replay.Replay.{Replay}
 use Rattle.dts_program.specs.Standing.{IsStanding}
-use Rattle.dts_program.specs.Progress.{Stands, Goes}
 use Rattle.dts_program.proofs.Advancing.{starved}
 use Rattle.dts_program.proofs.reader.CaptureReader.take_begun.Goals as goal
 

@@ -1,5 +1,5 @@
-use Rattle.std.proofs.Common.{◌≡◌, ℕ, ℤ, ◌+◌, ◌^◌, ◌<◌, List, Option, None, refl, sym, ap, ◌∙◌, subst, arith, rules, FitsSigned, w64}
-use Rattle.std.proofs.lemmas.Int.{to_z-of_z, ints}
+use Rattle.std.proofs.Common.{◌≡◌, ℕ, ℤ, List, Option, None, ap, ◌∙◌, subst, arith, rules, FitsSigned, w64}
+use Rattle.std.proofs.lemmas.Int.{to_z-of_z}
 use Rattle.slew_clock.specs.Started.{started}
 use Rattle.dts_capture.specs.declared.line.Event.{Event}
 use Rattle.dts_capture.specs.declared.action.Action.TheVariants as action

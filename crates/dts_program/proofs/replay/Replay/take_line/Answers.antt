@@ -1,4 +1,4 @@
-use Rattle.std.proofs.Common.{◌≡◌, ℕ, List, [], ◌∷◌, ◌++◌, Result, Err, refl, sym, ap, ◌∙◌, subst, arith}
+use Rattle.std.proofs.Common.{◌≡◌, ℕ, Result, Err, ◌∙◌, arith}
 use Rattle.dts_capture.specs.declared.line.LineCause.TheVariants as cause
 use Rattle.dts_program.specs.declared.status.Status.{Status}
 use Rattle.dts_program.specs.declared.status.Status.TheVariants as status

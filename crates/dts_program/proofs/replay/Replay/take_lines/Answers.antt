@@ -1,6 +1,6 @@
-use Rattle.std.proofs.Common.{◌≡◌, ℕ, List, Err, refl, sym, ap, ◌∙◌, subst, arith}
+use Rattle.std.proofs.Common.{Err, ap, ◌∙◌, arith}
 use Rattle.std.proofs.lemmas.Result.{err_from_is_err_and}
-use Rattle.dts_program.proofs.Advancing.{taken_none, taken_more, taken_stops, taken_all}
+use Rattle.dts_program.proofs.Advancing.{taken_none, taken_more, taken_stops}
 use Rattle.dts_program.proofs.replay.Replay.take_lines.Goals as goal
 
 pub loop-line-init : goal.loop-line-init

@@ -1,4 +1,4 @@
-use Rattle.std.proofs.Common.{ℕ, ◌≤◌, length}
+use Rattle.std.proofs.Common.{◌≤◌, length}
 use Rattle.dts_program.specs.Standing.{IsStanding}
 use Rattle.dts_program.proofs.Advancing.{HasTaken}
 use Rattle.dts_program.proofs.replay.Replay.take_lines.Given as goal
