@@ -19,7 +19,7 @@ use dts_base::{MemoryLink, MemoryOscillator, MemorySink, MemoryWords, NoMemory};
 use dts_edge::{FileSource, ReaderSource, WriterSink};
 use std::alloc::Global;
 use std::env;
-use std::io::{Stdin, Stdout};
+use std::io::{ErrorKind, Stdin, Stdout};
 use std::process::ExitCode;
 
 /// The roster file, in the current folder.
@@ -50,8 +50,10 @@ fn sides(alloc: Global) -> Result<Vec<Side>, NoMemory>
 
 // The words after the program's name. Words that are no text are no command line.
 fn words(rt: &HostRuntime) -> Result<Vec<String>, Status> {
-    let Ok(words) = env::args(rt) else {
-        return Err(Status::Usage);
+    let words = match env::args(rt) {
+        Ok(words) => words,
+        Err(error) if error.kind() == ErrorKind::OutOfMemory => return Err(Status::NoMemory),
+        Err(_) => return Err(Status::Usage),
     };
     match words.skip(1).collect(rt.alloc()) {
         Ok(words) => Ok(words),

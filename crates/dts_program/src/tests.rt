@@ -100,30 +100,28 @@ fn a_line_has_at_most_16384_octets(rt: HostRuntime) -> Result<(), Fail> {
 #[test]
 fn faults_are_answered_and_what_was_written_stands(rt: HostRuntime) -> Result<(), Fail> {
     let capture = b"start 0 1 unknown\nread 5\n";
-    let mut input = MemorySource::new(rt.alloc(), capture, &[])?;
-    let mut output = MemorySink::new(rt.alloc(), &[2])?;
-    let got = replay(rt.alloc(), Rates::usual(), &mut input, &mut output);
-    assert_eq!(rt;
-        got,
-        Status::WriteFault {
-            which: SinkName::Output
-        }
-    );
-    assert_eq!(rt;
-        output.written(),
-        b"record 0 0 0 - - - 0 1 0 0 0\n".as_slice()
-    );
-
-    let mut input = MemorySource::new(rt.alloc(), capture, &[1])?;
-    let mut output = MemorySink::new(rt.alloc(), &[])?;
-    let got = replay(rt.alloc(), Rates::usual(), &mut input, &mut output);
-    assert_eq!(rt;
-        got,
-        Status::ReadFault {
-            which: SourceName::Input
-        }
-    );
-    assert_eq!(rt; output.written(), b"".as_slice());
+    let record = "record 0 0 0 - - - 0 1 0 0 0\n";
+    let whole = "record 0 0 0 - - - 0 1 0 0 0\nreading 5 6 - 0 0\n";
+    let read_fault = Status::ReadFault {
+        which: SourceName::Input,
+    };
+    let write_fault = Status::WriteFault {
+        which: SinkName::Output,
+    };
+    for (read, write, status, want) in [
+        (1, 9, read_fault, ""),
+        (2, 9, read_fault, whole),
+        (3, 9, Status::Done, whole),
+        (9, 1, write_fault, ""),
+        (9, 2, write_fault, record),
+        (9, 3, Status::Done, whole),
+    ] {
+        let mut input = MemorySource::new(rt.alloc(), capture, &[read])?;
+        let mut output = MemorySink::new(rt.alloc(), &[write])?;
+        let got = replay(rt.alloc(), Rates::usual(), &mut input, &mut output);
+        assert_eq!(rt; got, status, "where read {read} and write {write} fail");
+        assert_eq!(rt; output.written(), want.as_bytes());
+    }
     Ok(())
 }
 
