@@ -19,6 +19,7 @@ impl<'a, R: Files> FileSource<'a, R> {
     /// A source over the file of this path, which is not opened yet.
     pub fn new(rt: &'a R, path: &'a str) -> Self
         ensures faults { result.faults ≡ 0 }
+        ensures path { result.path.now ≡ path.now }
     {
         FileSource {
             rt,

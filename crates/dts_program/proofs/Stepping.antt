@@ -8,7 +8,7 @@ use Rattle.dts_capture.specs.declared.line.Event.TheVariants as event
 use Rattle.dts_capture.specs.declared.action.Action.TheVariants as action
 use Rattle.dts_capture.specs.declared.action.NoteKind.{NoteKind}
 use Rattle.dts_capture.specs.declared.action.NoteKind.TheVariants as note
-use Rattle.sync_rules.specs.History.{History, Lane, osc_of, current_record}
+use Rattle.sync_rules.specs.History.{History, Lane, current_record}
 use Rattle.sync_rules.specs.Rules.{actions_of, followed_by, floor_at, floor_of, is_live, last_osc}
 use Rattle.sync_rules.proofs.Readings.{last_osc_live, last_osc_regressed, actions_live, actions_regressed, published_none}
 use Rattle.dts_program.specs.declared.node.Node.{Node}
@@ -64,7 +64,3 @@ read_gives node next h osc kind stands is =
           actions_regressed h osc dead ∙ ap (λ k. action.Log (record { osc = osc; peer = None; kind = k }) ∷ [])
           (ap note.Regressed (sym (floor_same node h osc stands)) ∙ sym noted)
     ] refl
-
--- every event that there is yet is a read
-pub read_eta : (e : Event) → event.Read (osc_of e) ≡ e
-read_eta (event.Read osc) = refl

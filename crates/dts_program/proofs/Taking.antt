@@ -1,6 +1,5 @@
 -- What one more line makes of a replay.
 use Rattle.std.proofs.Common.{◌≡◌, ℕ, ◌+◌, ◌^◌, ◌<◌, List, [], ◌∷◌, ◌++◌, length, Option, Some, None, refl, sym, ap, ◌∙◌, subst, arith}
-use Rattle.std.specs.Prelude.{flat_map}
 use Rattle.std.proofs.lemmas.List.{length-append, append-nil, map-append}
 use Rattle.slew_clock.specs.declared.rates.Rates.{Rates}
 use Rattle.dts_capture.specs.declared.line.Event.{Event}
@@ -10,28 +9,19 @@ use Rattle.dts_capture.specs.declared.action.Action.{Action}
 use Rattle.dts_capture.specs.declared.action.Action.TheVariants as action
 use Rattle.dts_capture.specs.Capture.{Spells}
 use Rattle.dts_capture.specs.Log.{log_text}
-use Rattle.sync_rules.specs.History.{History, Begun, Start, log_of, first_record}
-use Rattle.sync_rules.specs.Rules.{actions_of, followed_by, extended}
+use Rattle.sync_rules.specs.History.{Begun, Start, log_of, first_record}
+use Rattle.sync_rules.specs.Rules.{actions_of, followed_by}
 use Rattle.dts_program.specs.declared.node.Node.{Node}
 use Rattle.dts_program.specs.declared.replay.Replay.{Replay}
 use Rattle.dts_program.specs.Capture.{Capture, start_line, event_line, said_by, said, Begins, history_of}
 use Rattle.dts_program.specs.Output.{output_of}
 use Rattle.dts_program.specs.Standing.{StandsFor, StandsAt, Took, after_line}
+use Rattle.sync_rules.proofs.PlainFacts.{extended-more, log_of-more}
 use Rattle.dts_program.proofs.CaptureFacts.{SpellEach-append, said-append}
 
 -- the texts with one more
 length-more : (texts : List (List ℕ)) (text : List ℕ) → length (texts ++ text ∷ []) ≡ length texts + 1
 length-more texts text = length-append texts (text ∷ [])
-
--- events with one more at the end
-extended-more : (h : History) (events : List Event) (e : Event) → extended h (events ++ e ∷ []) ≡ followed_by (extended h events) e
-extended-more h [] e = refl
-extended-more h (event ∷ events) e = extended-more (followed_by h event) events e
-
--- the log with the one action that an event gives
-log_of-more : (h : History) (e : Event) (a : Action) → actions_of h e ≡ a ∷ [] → log_of (followed_by h e) ≡ log_of h ++ log_text a
-unfolding log_of
-log_of-more h e a one = ap (λ xs. log_of h ++ flat_map log_text xs) one ∙ ap (λ x. log_of h ++ x) (append-nil (log_text a))
 
 -- one more line that says something
 begins_more : (texts : List (List ℕ)) (text : List ℕ) (value : Line) (capture more : Option Capture) → Begins texts capture → Spells text value → length texts + 1 < 2 ^ 32

@@ -4,7 +4,8 @@ use Rattle.dts_capture.specs.declared.line.Event.TheVariants as event
 use Rattle.dts_capture.specs.declared.action.Action.TheVariants as action
 use Rattle.sync_rules.specs.Rules.{actions_of, followed_by}
 use Rattle.dts_program.specs.Standing.{StandsFor}
-use Rattle.dts_program.proofs.Stepping.{read_stands, read_gives, read_eta}
+use Rattle.sync_rules.proofs.PlainFacts.{read_eta}
+use Rattle.dts_program.proofs.Stepping.{read_stands, read_gives}
 use Rattle.dts_program.proofs.node.Node.step.Goals as goal
 
 pub returns-clause-action : goal.returns-clause-action
