@@ -1,5 +1,5 @@
 -- Runs of digits and the numbers that they write.
-use Rattle.std.proofs.Common.{◌≡◌, ℕ, zero, suc, ◌+◌, ◌-◌, ◌*◌, ◌^◌, ◌<◌, ◌≤◌, Bool, true, false, cond, List, [], ◌∷◌, length, get_or, take, refl, sym, ap, ◌∙◌, arith}
+use Rattle.std.proofs.Common.{◌≡◌, ℕ, zero, suc, ◌+◌, ◌-◌, ◌*◌, ◌^◌, ◌<◌, ◌≤◌, Bool, true, false, cond, List, [], ◌∷◌, length, get_or, take, drop, refl, sym, ap, ◌∙◌, arith}
 use Rattle.std.proofs.lemmas.Bool.Decides.{nat_tests}
 use Rattle.std.proofs.lemmas.Nat.{pow-add}
 use Rattle.std.proofs.Math.Nat.{mul-le-mul, one-le-pow, pow-le-pow_right}
@@ -7,6 +7,7 @@ use Rattle.std.proofs.lemmas.Int.Digits.{digits_value-lt}
 use Rattle.std.specs.List.{prefix_len}
 use Rattle.std.specs.Char.{digit_value, is_ascii_digit}
 use Rattle.std.specs.Str.Parse.{AllDigits, digits_value}
+use Rattle.utc_text.specs.FirstWrong.{BeginsNot}
 
 pub digit_octet : (c : ℕ) → digit_value c < 10 → (48 ≤ c) × (c ≤ 57) × (digit_value c ≡ c - 48)
 digit_octet c h = grind (arith, nat_tests)
@@ -32,6 +33,15 @@ run_from bs x false e h = tt
 pub AllDigits-run : (bs : List ℕ) → AllDigits 10 (take (prefix_len is_ascii_digit bs) bs)
 AllDigits-run [] = tt
 AllDigits-run (x ∷ bs) = run_from bs x (is_ascii_digit x) refl (AllDigits-run bs)
+
+ends_from : (bs : List ℕ) (x : ℕ) (b : Bool) → is_ascii_digit x ≡ b → BeginsNot is_ascii_digit (drop (prefix_len is_ascii_digit bs) bs) → BeginsNot is_ascii_digit (drop (cond b (1 + prefix_len is_ascii_digit bs) 0) (x ∷ bs))
+ends_from bs x true e h = let n : 1 + prefix_len is_ascii_digit bs ≡ suc (prefix_len is_ascii_digit bs) = omega arith in rw n h
+ends_from bs x false e h = e
+
+-- and behind them stands no digit
+pub run_ends : (bs : List ℕ) → BeginsNot is_ascii_digit (drop (prefix_len is_ascii_digit bs) bs)
+run_ends [] = tt
+run_ends (x ∷ bs) = ends_from bs x (is_ascii_digit x) refl (run_ends bs)
 
 pub number_below : (ds : List ℕ) (k : ℕ) → AllDigits 10 ds → length ds ≤ k → digits_value 10 ds < 10 ^ k
 number_below ds k h le =

@@ -21,7 +21,8 @@ use Rattle.utc_text.specs.Reading.{YearMonthDay, Clock, Moment, Length, right_at
 use Rattle.utc_text.specs.Reading as reading
 use Rattle.utc_text.specs.Civil.{clock_units}
 use Rattle.utc_text.specs.Spelling.{digits, fraction_text, IsFraction, fraction_units, date_text, IsDateField, clock_text, ClockField, IsClockField, clock_said, TdfField, tdf_text, IsTdfField, tdf_said, InaccuracyField, Unstated, Dashes, Infinite, Seconds, inaccuracy_text, seconds_units, IsInaccuracyField, inaccuracy_said, AbsoluteFields, absolute_text, IsAbsolute, absolute_said, IsDaysField, sign_text, RelativeFields, relative_text, IsRelative, relative_said}
-use Rattle.utc_text.proofs.DigitLemmas.{AllDigits-run}
+use Rattle.utc_text.specs.FirstWrong.{BeginsNot, EndsFraction, EndsTdf, EndsInaccuracy, EndsSign, TdfHourStands}
+use Rattle.utc_text.proofs.DigitLemmas.{AllDigits-run, run_ends}
 
 guard_some : {A : Type 0} (b : Bool) (x y : A) → cond b (Some x) None ≡ Some y → (b ≡ true) × (x ≡ y)
 guard_some true x y e = (refl, cc)
@@ -126,7 +127,7 @@ year_takes bs n rest e =
     let spelled : digits 2 a.0.0 ++ (digits 2 b.0.0 ++ b.0.1) ≡ digits 4 n ++ rest = rw (parts.0, parts.1, parts.2, parts.3, same) refl in
     (high.0 ∙ ap (λ (x : List ℕ). digits 2 a.0.0 ++ x) low.0 ∙ spelled, (omega (arith, leb-true 1582 (a.0.0 * 100 + b.0.0) g.0, value), omega (arith, high.1, low.1, value)))
 
-pub digits_takes : (most : ℕ) (bs ds rest : List ℕ) → digits_at most bs ≡ Some (ds, rest) → (bs ≡ ds ++ rest) × AllDigits 10 ds × (length ds ≤ most)
+pub digits_takes : (most : ℕ) (bs ds rest : List ℕ) → digits_at most bs ≡ Some (ds, rest) → (bs ≡ ds ++ rest) × AllDigits 10 ds × (length ds ≤ most) × BeginsNot is_ascii_digit rest
 unfolding digits_at
 digits_takes most bs ds rest e =
     let n = prefix_len is_ascii_digit bs in
@@ -138,12 +139,13 @@ digits_takes most bs ds rest e =
     let len = length-prefix_len is_ascii_digit bs in
     let whole : take n bs ++ drop n bs ≡ bs = take-append-drop n bs in
     let spelled : bs ≡ ds ++ rest = rw (← front, ← back) (sym whole) in
-    (spelled, rw front at all, rw (← front) (omega (arith, len)))
+    (spelled, rw front at all, rw (← front) (omega (arith, len)), subst (λ (x : List ℕ). BeginsNot is_ascii_digit x) back (run_ends bs))
 
 -- the text of a field, and what it says
 pub record FractionTaken (bs : List ℕ) (units : ℕ) (rest : List ℕ) : Type 0 where
   pub fraction : Option (List ℕ)
   pub right : IsFraction fraction
+  pub ends : EndsFraction fraction rest
   pub spelled : bs ≡ fraction_text fraction ++ rest
   pub said : units ≡ fraction_units fraction
 
@@ -155,18 +157,18 @@ fraction_there first left true u rest t e =
     let same : a.0.1 ≡ rest = some_second (units_of a.0.0) u a.0.1 rest a.2 in
     let value : units_of a.0.0 ≡ u = some_first (units_of a.0.0) u a.0.1 rest a.2 in
     let point : first ≡ 46 = eqb-true first 46 t in
-    record { fraction = Some a.0.0; right = (taken.1, taken.2); spelled = cons_spelled first 46 left a.0.0 a.0.1 rest point taken.0 same; said = sym value }
+    record { fraction = Some a.0.0; right = (taken.1, taken.2); ends = subst (λ (x : List ℕ). BeginsNot is_ascii_digit x) same taken.3; spelled = cons_spelled first 46 left a.0.0 a.0.1 rest point taken.0 same; said = sym value }
 fraction_there first left false u rest t e =
     let same : first ∷ left ≡ rest = some_second 0 u (first ∷ left) rest e in
     let value : 0 ≡ u = some_first 0 u (first ∷ left) rest e in
-    record { fraction = None; right = tt; spelled = same; said = sym value }
+    record { fraction = None; right = tt; ends = subst (λ (x : List ℕ). EndsFraction None x) same t; spelled = same; said = sym value }
 
 pub fraction_takes : (bs : List ℕ) (u : ℕ) (rest : List ℕ) → fraction_at bs ≡ Some (u, rest) → FractionTaken bs u rest
 unfolding fraction_at
 fraction_takes [] u rest e =
     let same : [] ≡ rest = some_second 0 u [] rest e in
     let value : 0 ≡ u = some_first 0 u [] rest e in
-    record { fraction = None; right = tt; spelled = same; said = sym value }
+    record { fraction = None; right = tt; ends = subst (λ (x : List ℕ). EndsFraction None x) same tt; spelled = same; said = sym value }
 fraction_takes (first ∷ left) u rest e = fraction_there first left (nat_eq first 46) u rest refl e
 
 -- ---- fields that are right at their place
@@ -255,7 +257,7 @@ hour_tested first left true false w h rest p q e = hour_behind first left false 
 hour_tested first left false true w h rest p q e = hour_behind first left true w h rest (eqb-true first 45 q) e
 hour_tested first left false false w h rest p q e = absurd (no_hour w h (first ∷ left) rest None refl e)
 
-hour_takes : (left : List ℕ) (w : Bool) (h : ℕ) (rest : List ℕ) → tdf_hour_at left ≡ Some (Some (w, h), rest) → HourTaken left w h rest
+pub hour_takes : (left : List ℕ) (w : Bool) (h : ℕ) (rest : List ℕ) → tdf_hour_at left ≡ Some (Some (w, h), rest) → HourTaken left w h rest
 unfolding tdf_hour_at
 hour_takes [] w h rest e = absurd (no_hour w h [] rest None refl e)
 hour_takes (first ∷ left) w h rest e = hour_tested first left (nat_eq first 43) (nat_eq first 45) w h rest refl refl e
@@ -267,15 +269,18 @@ absent_behind left west rest e =
     let none : both_in west a.0.0 ≡ None = ap (λ (p : Option (Bool × ℕ) × List ℕ). p.0) g.1 in
     absurd cc
 
-absent_tested : (first : ℕ) (left : List ℕ) (east west : Bool) (rest : List ℕ) → cond (east || west) (fields.◌>>=◌ {B = Option (Bool × ℕ) × List ℕ} (two_digits left) (λ hours. cond (nat_le hours.0 23) (Some (Some (west, hours.0), hours.1)) None)) (Some (None, first ∷ left)) ≡ Some (None, rest) → first ∷ left ≡ rest
-absent_tested first left true west rest e = absurd (absent_behind left west rest e)
-absent_tested first left false true rest e = absurd (absent_behind left true rest e)
-absent_tested first left false false rest e = some_second None None (first ∷ left) rest e
+absent_tested : (first : ℕ) (left : List ℕ) (east west : Bool) (rest : List ℕ) → nat_eq first 43 ≡ east → nat_eq first 45 ≡ west → cond (east || west) (fields.◌>>=◌ {B = Option (Bool × ℕ) × List ℕ} (two_digits left) (λ hours. cond (nat_le hours.0 23) (Some (Some (west, hours.0), hours.1)) None)) (Some (None, first ∷ left)) ≡ Some (None, rest) → TdfHourStands None (first ∷ left) rest
+absent_tested first left true west rest p q e = absurd (absent_behind left west rest e)
+absent_tested first left false true rest p q e = absurd (absent_behind left true rest e)
+absent_tested first left false false rest p q e =
+    let same : first ∷ left ≡ rest = some_second None None (first ∷ left) rest e in
+    let none : EndsTdf None (first ∷ left) = rw (p, q) refl in
+    (subst (λ (x : List ℕ). EndsTdf None x) same none, same)
 
-hour_absent : (left : List ℕ) (rest : List ℕ) → tdf_hour_at left ≡ Some (None, rest) → left ≡ rest
+pub hour_absent : (left : List ℕ) (rest : List ℕ) → tdf_hour_at left ≡ Some (None, rest) → TdfHourStands None left rest
 unfolding tdf_hour_at
-hour_absent [] rest e = some_second None None [] rest e
-hour_absent (first ∷ left) rest e = absent_tested first left (nat_eq first 43) (nat_eq first 45) rest e
+hour_absent [] rest e = let same : [] ≡ rest = some_second None None [] rest e in (subst (λ (x : List ℕ). EndsTdf None x) same tt, same)
+hour_absent (first ∷ left) rest e = absent_tested first left (nat_eq first 43) (nat_eq first 45) rest refl refl e
 
 tdf_behind : (text left : List ℕ) (o : Option (Bool × ℕ)) (middle : List ℕ) (tdf : ℤ) (rest : List ℕ) → tdf_hour_at left ≡ Some (o, middle) → tdf_minute_of text middle o ≡ Ok (tdf, rest) → TdfTaken left tdf rest
 unfolding tdf_minute_of
@@ -283,7 +288,7 @@ tdf_behind text left None middle tdf rest h e =
     let both = ok_is (pos 0, middle) (tdf, rest) e in
     let same : middle ≡ rest = ap (λ (p : ℤ × List ℕ). p.1) both in
     let value : pos 0 ≡ tdf = ap (λ (p : ℤ × List ℕ). p.0) both in
-    record { field = None; right = tt; spelled = hour_absent left middle h ∙ same; said = sym value }
+    record { field = None; right = tt; spelled = (hour_absent left middle h).1 ∙ same; said = sym value }
 tdf_behind text left (Some (w, n)) middle tdf rest h e =
     let a = bind_ok (right_at text TdfMinute middle (part_at 58 0 59 middle)) (λ minute. Ok (signed w (n * 60 + minute.0), minute.1)) (tdf, rest) e in
     let hour = hour_takes left w n middle h in
@@ -306,6 +311,7 @@ tdf_takes text left tdf rest e =
 pub record InaccuracyTaken (left : List ℕ) (inaccuracy : Option ℕ) (rest : List ℕ) : Type 0 where
   pub field : InaccuracyField
   pub right : IsInaccuracyField field
+  pub ends : EndsInaccuracy field rest
   pub spelled : left ≡ inaccuracy_text field ++ rest
   pub said : inaccuracy ≡ inaccuracy_said field
 
@@ -322,7 +328,7 @@ seconds_taken first left v rest letter e =
     let same : b.0.1 ≡ rest = ap (λ (p : Option ℕ × List ℕ). p.1) g.1 in
     let field : InaccuracyField = Seconds a.0.0 part.fraction in
     let most : seconds_units a.0.0 part.fraction ≤ 2 ^ 48 - 2 = rw part.said at (leb-true (digits_value 10 a.0.0 * 10_000_000 + b.0.0) (2 ^ 48 - 2) tests.1) in
-    record { field = field; right = (whole.1, leb-true 1 (length a.0.0) tests.0, whole.2, part.right, most); spelled = seconds_spelled first left a.0.0 a.0.1 b.0.1 rest part.fraction letter whole.0 part.spelled same; said = sym value ∙ ap (λ (n : ℕ). Some (digits_value 10 a.0.0 * 10_000_000 + n)) part.said }
+    record { field = field; right = (whole.1, leb-true 1 (length a.0.0) tests.0, whole.2, part.right, most); ends = subst (λ (x : List ℕ). EndsInaccuracy field x) same (subst (λ (x : List ℕ). BeginsNot is_ascii_digit x) part.spelled whole.3, part.ends); spelled = seconds_spelled first left a.0.0 a.0.1 b.0.1 rest part.fraction letter whole.0 part.spelled same; said = sym value ∙ ap (λ (n : ℕ). Some (digits_value 10 a.0.0 * 10_000_000 + n)) part.said }
 
 front_is : (needle left : List ℕ) (n : ℕ) → pointwise nat_eq needle (take n left) ≡ true → left ≡ needle ++ drop n left
 front_is needle left n e =
@@ -333,11 +339,11 @@ stated_tested : (first : ℕ) (left : List ℕ) (dashes letters : Bool) (v : Opt
 stated_tested first left true letters v rest letter d l e =
     let same : drop 5 left ≡ rest = some_second None v (drop 5 left) rest e in
     let value : None ≡ v = some_first None v (drop 5 left) rest e in
-    record { field = Dashes; right = tt; spelled = rw letter (ap (λ (x : List ℕ). 73 ∷ x) (front_is (codes "-----") left 5 d ∙ ap (λ (x : List ℕ). codes "-----" ++ x) same)); said = sym value }
+    record { field = Dashes; right = tt; ends = tt; spelled = rw letter (ap (λ (x : List ℕ). 73 ∷ x) (front_is (codes "-----") left 5 d ∙ ap (λ (x : List ℕ). codes "-----" ++ x) same)); said = sym value }
 stated_tested first left false true v rest letter d l e =
     let same : drop 3 left ≡ rest = some_second None v (drop 3 left) rest e in
     let value : None ≡ v = some_first None v (drop 3 left) rest e in
-    record { field = Infinite; right = tt; spelled = rw letter (ap (λ (x : List ℕ). 73 ∷ x) (front_is (codes "inf") left 3 l ∙ ap (λ (x : List ℕ). codes "inf" ++ x) same)); said = sym value }
+    record { field = Infinite; right = tt; ends = tt; spelled = rw letter (ap (λ (x : List ℕ). 73 ∷ x) (front_is (codes "inf") left 3 l ∙ ap (λ (x : List ℕ). codes "inf" ++ x) same)); said = sym value }
 stated_tested first left false false v rest letter d l e = seconds_taken first left v rest letter e
 
 stated_takes : (first : ℕ) (left : List ℕ) (v : Option ℕ) (rest : List ℕ) → first ≡ 73 → stated_at left ≡ Some (v, rest) → InaccuracyTaken (first ∷ left) v rest
@@ -349,14 +355,14 @@ inaccuracy_tested first left true v rest t e = stated_takes first left v rest (e
 inaccuracy_tested first left false v rest t e =
     let same : first ∷ left ≡ rest = some_second None v (first ∷ left) rest e in
     let value : None ≡ v = some_first None v (first ∷ left) rest e in
-    record { field = Unstated; right = tt; spelled = same; said = sym value }
+    record { field = Unstated; right = tt; ends = subst (λ (x : List ℕ). EndsInaccuracy Unstated x) same t; spelled = same; said = sym value }
 
-inaccuracy_takes : (left : List ℕ) (v : Option ℕ) (rest : List ℕ) → inaccuracy_at left ≡ Some (v, rest) → InaccuracyTaken left v rest
+pub inaccuracy_takes : (left : List ℕ) (v : Option ℕ) (rest : List ℕ) → inaccuracy_at left ≡ Some (v, rest) → InaccuracyTaken left v rest
 unfolding inaccuracy_at
 inaccuracy_takes [] v rest e =
     let same : [] ≡ rest = some_second None v [] rest e in
     let value : None ≡ v = some_first None v [] rest e in
-    record { field = Unstated; right = tt; spelled = same; said = sym value }
+    record { field = Unstated; right = tt; ends = subst (λ (x : List ℕ). EndsInaccuracy Unstated x) same tt; spelled = same; said = sym value }
 inaccuracy_takes (first ∷ left) v rest e = inaccuracy_tested first left (nat_eq first 73) v rest refl e
 
 guard_ended : {A : Type 0} (b : Bool) (d : TextFault) (x y : A) → cond b (Ok x) (Err d) ≡ Ok y → (b ≡ true) × (x ≡ y)
@@ -407,10 +413,11 @@ absolute_takes text m e =
 pub record DaysTaken (left : List ℕ) (days : ℕ) (rest : List ℕ) : Type 0 where
   pub field : List ℕ
   pub right : IsDaysField field
+  pub ends : BeginsNot is_ascii_digit rest
   pub spelled : left ≡ field ++ rest
   pub said : days ≡ digits_value 10 field
 
-days_takes : (left : List ℕ) (n : ℕ) (rest : List ℕ) → days_at left ≡ Some (n, rest) → DaysTaken left n rest
+pub days_takes : (left : List ℕ) (n : ℕ) (rest : List ℕ) → days_at left ≡ Some (n, rest) → DaysTaken left n rest
 unfolding days_at
 days_takes left n rest e =
     let a = bind_some (digits_at 8 left) (λ ds. cond (nat_le 1 (length ds.0) && nat_le (digits_value 10 ds.0) 10_675_199) (Some (digits_value 10 ds.0, ds.1)) None) (n, rest) e in
@@ -419,21 +426,24 @@ days_takes left n rest e =
     let whole = digits_takes 8 left a.0.0 a.0.1 a.1 in
     let value : digits_value 10 a.0.0 ≡ n = ap (λ (p : ℕ × List ℕ). p.0) g.1 in
     let same : a.0.1 ≡ rest = ap (λ (p : ℕ × List ℕ). p.1) g.1 in
-    record { field = a.0.0; right = (whole.1, leb-true 1 (length a.0.0) tests.0, whole.2, leb-true (digits_value 10 a.0.0) 10_675_199 tests.1); spelled = whole.0 ∙ ap (λ (x : List ℕ). a.0.0 ++ x) same; said = sym value }
+    record { field = a.0.0; right = (whole.1, leb-true 1 (length a.0.0) tests.0, whole.2, leb-true (digits_value 10 a.0.0) 10_675_199 tests.1); ends = subst (λ (x : List ℕ). BeginsNot is_ascii_digit x) same whole.3; spelled = whole.0 ∙ ap (λ (x : List ℕ). a.0.0 ++ x) same; said = sym value }
 
 abbrev sign_pair : Bool → List ℕ → List ℕ → Bool × List ℕ
 sign_pair test first rest = cond test (true, rest) (false, first)
 
-sign_tested : (first : ℕ) (left : List ℕ) (test : Bool) → nat_eq first 45 ≡ test → first ∷ left ≡ sign_text (sign_pair test (first ∷ left) left).0 ++ (sign_pair test (first ∷ left) left).1
-sign_tested first left true t = ap (λ (x : ℕ). x ∷ left) (eqb-true first 45 t)
-sign_tested first left false t = refl
+abbrev pub SignTaken : List ℕ → Bool × List ℕ → Type 0
+SignTaken text s = EndsSign s.0 s.1 × (text ≡ sign_text s.0 ++ s.1)
 
-sign_spelled : (text : List ℕ) → text ≡ sign_text (sign_at text).0 ++ (sign_at text).1
+sign_tested : (first : ℕ) (left : List ℕ) (test : Bool) → nat_eq first 45 ≡ test → SignTaken (first ∷ left) (sign_pair test (first ∷ left) left)
+sign_tested first left true t = (tt, ap (λ (x : ℕ). x ∷ left) (eqb-true first 45 t))
+sign_tested first left false t = (t, refl)
+
+pub sign_takes : (text : List ℕ) → SignTaken text (sign_at text)
 unfolding sign_at
-sign_spelled [] = refl
-sign_spelled (first ∷ left) = sign_tested first left (nat_eq first 45) refl
+sign_takes [] = (tt, refl)
+sign_takes (first ∷ left) = sign_tested first left (nat_eq first 45) refl
 
-fits_taken : (negative : Bool) (units : ℕ) → fits_time negative units ≡ true → FitsSigned w64 (signed negative units)
+pub fits_taken : (negative : Bool) (units : ℕ) → fits_time negative units ≡ true → FitsSigned w64 (signed negative units)
 fits_taken true zero e = omega (arith, signed_arith)
 fits_taken true (suc units) e = omega (arith, signed_arith, leb-true (suc units) (2 ^ 63) e)
 fits_taken false units e = omega (arith, signed_arith, ltb-true units (2 ^ 63) e)
@@ -494,7 +504,7 @@ relative_takes text l e =
     let time = time_takes text negative (sign_at text).1 a.0.0 a.0.1 a.1 in
     let end = end_takes text a.0.1 b.0 b.1 in
     let f : RelativeFields = record { negative = negative; days = time.days; clock = time.clock; inaccuracy = end.field } in
-    let grouped : text ≡ sign_text negative ++ (time.days ++ (clock_text time.clock ++ inaccuracy_text end.field)) = sign_spelled text ∙ ap (λ (x : List ℕ). sign_text negative ++ x) (time.spelled ∙ ap (λ (x : List ℕ). time.days ++ (clock_text time.clock ++ x)) end.spelled) in
+    let grouped : text ≡ sign_text negative ++ (time.days ++ (clock_text time.clock ++ inaccuracy_text end.field)) = (sign_takes text).1 ∙ ap (λ (x : List ℕ). sign_text negative ++ x) (time.spelled ∙ ap (λ (x : List ℕ). time.days ++ (clock_text time.clock ++ x)) end.spelled) in
     let regrouped : relative_text f ≡ sign_text negative ++ (time.days ++ (clock_text time.clock ++ inaccuracy_text end.field)) = append_assoc (sign_text negative ++ time.days) (clock_text time.clock) (inaccuracy_text end.field) ∙ append_assoc (sign_text negative) time.days (clock_text time.clock ++ inaccuracy_text end.field) in
     let said : length_made a.0.0 b.0 ≡ relative_said f = length_same a.0.0 _ b.0 _ time.said end.said in
     (f, record { days = time.days_right; clock = time.clock_right; time = time.fits; inaccuracy = end.right }, grouped ∙ sym regrouped, sym (ok_is (length_made a.0.0 b.0) l b.2) ∙ said)
