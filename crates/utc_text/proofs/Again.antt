@@ -168,7 +168,7 @@ absolute_again f h =
     let tdf = tdf_again text f.tdf (inaccuracy_text f.inaccuracy) h.tdf (not_east f.inaccuracy) (not_west f.inaccuracy) in
     rw (date, clock, tdf, end_again text f.inaccuracy h.inaccuracy) refl
 
-days_again : (ds rest : List ℕ) → IsDaysField ds → is_ascii_digit (get_or rest 0 0) ≡ false → days_at (ds ++ rest) ≡ Some (digits_value 10 ds, rest)
+pub days_again : (ds rest : List ℕ) → IsDaysField ds → is_ascii_digit (get_or rest 0 0) ≡ false → days_at (ds ++ rest) ≡ Some (digits_value 10 ds, rest)
 unfolding days_at
 days_again ds rest h stop =
     rw (digits_again 8 ds rest h.0 h.2 stop, le-leb 1 (length ds) h.1, le-leb (digits_value 10 ds) 10_675_199 h.3) refl

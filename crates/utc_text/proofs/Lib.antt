@@ -6,3 +6,5 @@ pub mod Laws
 pub mod CivilAnswers
 pub mod Takes
 pub mod PrintAnswers
+pub mod Standing
+pub mod Reached

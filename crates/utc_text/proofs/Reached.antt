@@ -1,0 +1,77 @@
+-- How far a text stands by the grammar, and the first field that does not.
+use Rattle.std.proofs.Common.{◌≡◌, ℕ, List, [], ◌∷◌, ◌++◌, Option, Some, None, refl, sym, ap, subst, ◌∙◌}
+use Rattle.utc_text.specs.declared.fault.TextField.{TextField}
+use Rattle.utc_text.specs.declared.fault.TextFault.{TextFault}
+use Rattle.utc_text.specs.Reading.{fault_at}
+use Rattle.utc_text.specs.FirstWrong.{Stand, IsFirstWrong}
+
+abbrev pub Stands : Type 0 → Type 1
+Stands F = TextField → F → List ℕ → List ℕ → Type 0
+
+pub split : {F : Type 0} (stands : Stands F) (front back : List TextField) (f : F) (here rest : List ℕ) → Stand stands (front ++ back) f here rest → (middle : List ℕ) × Stand stands front f here middle × Stand stands back f middle rest
+split stands [] back f here rest s = (here, refl, s)
+split stands (field ∷ front) back f here rest s =
+    let p = split stands front back f s.0 rest s.2 in
+    (p.0, (s.0, s.1, p.1), p.2)
+
+pub joined : {F : Type 0} (stands : Stands F) (front back : List TextField) (f : F) (here middle rest : List ℕ) → Stand stands front f here middle → Stand stands back f middle rest → Stand stands (front ++ back) f here rest
+joined stands [] back f here middle rest s t = subst (λ (x : List ℕ). Stand stands back f x rest) (sym s) t
+joined stands (field ∷ front) back f here middle rest s t = (s.0, s.1, joined stands front back f s.0 middle rest s.2 t)
+
+-- one more field
+pub extended : {F : Type 0} (stands : Stands F) (front : List TextField) (field : TextField) (f : F) (here middle rest : List ℕ) → Stand stands front f here middle → stands field f middle rest → Stand stands (front ++ field ∷ []) f here rest
+extended stands front field f here middle rest s t = joined stands front (field ∷ []) f here middle rest s (rest, t, refl)
+
+-- The fields of `front` stand in the text. In whatever way they do, they leave `left` of it, and `agrees` holds of their values.
+pub record Reached {F : Type 0} (stands : Stands F) (front : List TextField) (text left : List ℕ) (agrees : F → Type 0) : Type 0 where
+  pub fields : F
+  pub before : Stand stands front fields text left
+  pub same : (other : F) (rest : List ℕ) → Stand stands front other text rest → (rest ≡ left) × agrees other
+
+-- where the next field stands, that is what is read of it
+abbrev pub Reads : {F V : Type 0} → Stands F → TextField → List ℕ → (F → Type 0) → (F → V) → Option (V × List ℕ) → Type 0
+Reads {F} stands field left agrees said o = (other : F) (rest : List ℕ) → agrees other → stands field other left rest → o ≡ Some (said other, rest)
+
+abbrev both_in : {A B : Type 0} → A → B → Option (A × B)
+both_in x r = Some (x, r)
+
+both_same : {A B : Type 0} (x y : A) (r s : B) → both_in x r ≡ both_in y s → (x ≡ y) × (r ≡ s)
+both_same {A} {B} x y r s e =
+    let pair : (x, r) ≡ (y, s) = cc in
+    (ap (λ (p : A × B). p.0) pair, ap (λ (p : A × B). p.1) pair)
+
+none_is : {A : Type 0} (o : Option A) (x : A) → o ≡ None → o ≡ Some x → ⊥
+none_is o x none some = cc
+
+next_read : {F V : Type 0} (stands : Stands F) (front : List TextField) (field : TextField) (text left : List ℕ) (agrees : F → Type 0) (said : F → V) (o : Option (V × List ℕ)) → Reached stands front text left agrees → Reads stands field left agrees said o → (other : F) (rest : List ℕ) → Stand stands (front ++ field ∷ []) other text rest → agrees other × (o ≡ Some (said other, rest))
+next_read {F} {V} stands front field text left agrees said o r reads other rest s =
+    let p = split stands front (field ∷ []) other text rest s in
+    let q = r.same other p.0 p.1 in
+    let here : stands field other left rest = subst (λ (x : List ℕ). stands field other left x) p.2.2 (subst (λ (x : List ℕ). stands field other x p.2.0) q.0 p.2.1) in
+    (q.1, reads other rest q.1 here)
+
+-- a field that is not read does not stand
+pub stuck : {F V : Type 0} (stands : Stands F) (front : List TextField) (field : TextField) (text left : List ℕ) (agrees : F → Type 0) (said : F → V) (o : Option (V × List ℕ)) → Reached stands front text left agrees → Reads stands field left agrees said o → o ≡ None → (other : F) (rest : List ℕ) → Stand stands (front ++ field ∷ []) other text rest → ⊥
+stuck stands front field text left agrees said o r reads none other rest s =
+    none_is o (said other, rest) none (next_read stands front field text left agrees said o r reads other rest s).1
+
+-- one that is read does, with these values of the fields
+pub further : {F V : Type 0} (stands : Stands F) (front : List TextField) (field : TextField) (text left : List ℕ) (agrees more : F → Type 0) (said : F → V) (o : Option (V × List ℕ)) (x : V × List ℕ) → Reached stands front text left agrees → Reads stands field left agrees said o → o ≡ Some x → ((f : F) → agrees f → said f ≡ x.0 → more f) → (fields : F) → Stand stands front fields text left → stands field fields left x.1 → Reached stands (front ++ field ∷ []) text x.1 more
+further stands front field text left agrees more said o x r reads some adds fields before here = record {
+  fields = fields;
+  before = extended stands front field fields text left x.1 before here;
+  same = λ other rest s.
+    let p = next_read stands front field text left agrees said o r reads other rest s in
+    let e = both_same (said other) x.0 rest x.1 (sym p.1 ∙ some) in
+    (e.1, adds other p.0 e.0);
+}
+
+-- a fault that names the first wrong field
+abbrev pub Names : {F : Type 0} → Stands F → List TextField → List ℕ → TextFault → Type 0
+Names stands order text fault = (left : List ℕ) × IsFirstWrong stands order text fault.field left × (fault ≡ fault_at text fault.field left)
+
+pub named : {F : Type 0} (stands : Stands F) (order : List TextField) (text left : List ℕ) (field : TextField) (fault : TextFault) → IsFirstWrong stands order text field left → fault ≡ fault_at text field left → Names stands order text fault
+unfolding fault_at
+named stands order text left field fault wrong is =
+    let same : fault.field ≡ field = ap (λ (x : TextFault). x.field) is in
+    (left, subst (λ (x : TextField). IsFirstWrong stands order text x left) (sym same) wrong, is ∙ ap (λ (x : TextField). fault_at text x left) (sym same))
