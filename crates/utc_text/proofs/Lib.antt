@@ -8,3 +8,5 @@ pub mod Takes
 pub mod PrintAnswers
 pub mod Standing
 pub mod Reached
+pub mod AbsoluteFault
+pub mod RelativeFault

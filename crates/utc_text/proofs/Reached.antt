@@ -1,8 +1,12 @@
 -- How far a text stands by the grammar, and the first field that does not.
-use Rattle.std.proofs.Common.{◌≡◌, ℕ, List, [], ◌∷◌, ◌++◌, Option, Some, None, refl, sym, ap, subst, ◌∙◌}
+use Rattle.std.proofs.Common.{◌≡◌, ℕ, suc, ◌+◌, false, cond, nat_eq, List, [], ◌∷◌, ◌++◌, length, Option, Some, None, Result, Ok, Err, refl, sym, ap, subst, ◌∙◌, arith}
+use Rattle.std.proofs.lemmas.Bool.{ne_eqb}
 use Rattle.utc_text.specs.declared.fault.TextField.{TextField}
+use Rattle.utc_text.specs.declared.fault.TextField.TheVariants.{Hour, Minute, Second, Fraction, Tail}
 use Rattle.utc_text.specs.declared.fault.TextFault.{TextFault}
-use Rattle.utc_text.specs.Reading.{fault_at}
+use Rattle.utc_text.specs.Fields.{part_at, fraction_at}
+use Rattle.utc_text.specs.Reading.{Clock, right_at, fault_at}
+use Rattle.utc_text.specs.Reading as reading
 use Rattle.utc_text.specs.FirstWrong.{Stand, IsFirstWrong}
 
 abbrev pub Stands : Type 0 → Type 1
@@ -32,6 +36,9 @@ pub record Reached {F : Type 0} (stands : Stands F) (front : List TextField) (te
 abbrev pub Reads : {F V : Type 0} → Stands F → TextField → List ℕ → (F → Type 0) → (F → V) → Option (V × List ℕ) → Type 0
 Reads {F} stands field left agrees said o = (other : F) (rest : List ℕ) → agrees other → stands field other left rest → o ≡ Some (said other, rest)
 
+abbrev refused : {A : Type 0} → TextFault → Result A TextFault
+refused x = Err x
+
 abbrev both_in : {A B : Type 0} → A → B → Option (A × B)
 both_in x r = Some (x, r)
 
@@ -39,6 +46,16 @@ both_same : {A B : Type 0} (x y : A) (r s : B) → both_in x r ≡ both_in y s �
 both_same {A} {B} x y r s e =
     let pair : (x, r) ≡ (y, s) = cc in
     (ap (λ (p : A × B). p.0) pair, ap (λ (p : A × B). p.1) pair)
+
+pub err_is : {A : Type 0} {x y : TextFault} → refused {A = A} x ≡ refused y → x ≡ y
+err_is e = cc
+
+-- what is left behind the last field
+pub tail_left : (text : List ℕ) (said : Option ℕ) (left : List ℕ) (d : TextFault) → cond (nat_eq (length left) 0) (Ok said) (Err (fault_at text Tail left)) ≡ Err d → (left ≡ [] → ⊥) × (d ≡ fault_at text Tail left)
+tail_left text said [] d e = absurd cc
+tail_left text said (octet ∷ left) d e =
+    let more : nat_eq (length (octet ∷ left)) 0 ≡ false = ne_eqb (length (octet ∷ left)) 0 (λ n. omega arith) in
+    (λ n. absurd cc, sym (err_is (rw more at e)))
 
 none_is : {A : Type 0} (o : Option A) (x : A) → o ≡ None → o ≡ Some x → ⊥
 none_is o x none some = cc
@@ -56,8 +73,8 @@ stuck stands front field text left agrees said o r reads none other rest s =
     none_is o (said other, rest) none (next_read stands front field text left agrees said o r reads other rest s).1
 
 -- one that is read does, with these values of the fields
-pub further : {F V : Type 0} (stands : Stands F) (front : List TextField) (field : TextField) (text left : List ℕ) (agrees more : F → Type 0) (said : F → V) (o : Option (V × List ℕ)) (x : V × List ℕ) → Reached stands front text left agrees → Reads stands field left agrees said o → o ≡ Some x → ((f : F) → agrees f → said f ≡ x.0 → more f) → (fields : F) → Stand stands front fields text left → stands field fields left x.1 → Reached stands (front ++ field ∷ []) text x.1 more
-further stands front field text left agrees more said o x r reads some adds fields before here = record {
+pub further : {F V : Type 0} {stands : Stands F} {front : List TextField} {text left : List ℕ} {agrees more : F → Type 0} {o : Option (V × List ℕ)} {x : V × List ℕ} (field : TextField) (said : F → V) → Reached stands front text left agrees → Reads stands field left agrees said o → o ≡ Some x → ((f : F) → agrees f → said f ≡ x.0 → more f) → (fields : F) → Stand stands front fields text left → stands field fields left x.1 → Reached stands (front ++ field ∷ []) text x.1 more
+further {stands = stands} {front = front} {text = text} {left = left} {agrees = agrees} {o = o} {x = x} field said r reads some adds fields before here = record {
   fields = fields;
   before = extended stands front field fields text left x.1 before here;
   same = λ other rest s.
@@ -75,3 +92,28 @@ unfolding fault_at
 named stands order text left field fault wrong is =
     let same : fault.field ≡ field = ap (λ (x : TextFault). x.field) is in
     (left, subst (λ (x : TextField). IsFirstWrong stands order text x left) (sym same) wrong, is ∙ ap (λ (x : TextField). fault_at text x left) (sym same))
+
+-- the field that is not read behind those that stand
+pub unread : {F V : Type 0} {stands : Stands F} {front : List TextField} {text left : List ℕ} {agrees : F → Type 0} {o : Option (V × List ℕ)} {order : List TextField} {fault : TextFault} (field : TextField) (back : List TextField) (said : F → V) → Reached stands front text left agrees → Reads stands field left agrees said o → o ≡ None → order ≡ front ++ field ∷ back → fault ≡ fault_at text field left → Names stands order text fault
+unread {stands = stands} {front = front} {text = text} {left = left} {agrees = agrees} {o = o} {order = order} {fault = fault} field back said r reads none at is =
+    let wrong : IsFirstWrong stands order text field left = record { front = front; back = back; order_is = at; fields = r.fields; before = r.before; wrong = stuck stands front field text left agrees said o r reads none } in
+    named stands order text left field fault wrong is
+
+-- what is made of a value that was read is no fault
+pub err_kept : {A B : Type 0} (r : Result A TextFault) (f : A → B) (d : TextFault) → reading.◌>>=◌ r (λ x. Ok (f x)) ≡ Err d → r ≡ Err d
+err_kept (Ok x) f d e = absurd cc
+err_kept (Err x) f d e = ap (λ (y : TextFault). Err y) (err_is e)
+
+-- ---- the time of day, read from each of its fields on
+
+abbrev pub units_read : List ℕ → ℕ → ℕ → ℕ → List ℕ → Option (ℕ × List ℕ) → Result (Clock × List ℕ) TextFault
+units_read text hour minute second left o = reading.◌>>=◌ (right_at text Fraction left o) (λ units. Ok (record { hour = hour; minute = minute; second = second; units = units.0 }, units.1))
+
+abbrev pub second_read : List ℕ → ℕ → ℕ → List ℕ → Option (ℕ × List ℕ) → Result (Clock × List ℕ) TextFault
+second_read text hour minute left o = reading.◌>>=◌ (right_at text Second left o) (λ second. units_read text hour minute second.0 second.1 (fraction_at second.1))
+
+abbrev pub minute_read : List ℕ → ℕ → List ℕ → Option (ℕ × List ℕ) → Result (Clock × List ℕ) TextFault
+minute_read text hour left o = reading.◌>>=◌ (right_at text Minute left o) (λ minute. second_read text hour minute.0 minute.1 (part_at 58 0 59 minute.1))
+
+abbrev pub hour_read : List ℕ → List ℕ → Option (ℕ × List ℕ) → Result (Clock × List ℕ) TextFault
+hour_read text left o = reading.◌>>=◌ (right_at text Hour left o) (λ hour. minute_read text hour.0 hour.1 (part_at 58 0 59 hour.1))

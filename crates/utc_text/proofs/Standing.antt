@@ -10,7 +10,7 @@ use Rattle.jiff_core.proofs.CalendarLemmas.{days_in_month_bounds}
 use Rattle.utc_text.specs.Fields.{part_at, year_at, fraction_at, tdf_hour_at, seconds_at, stated_at, inaccuracy_at, days_at}
 use Rattle.utc_text.specs.Reading.{sign_at}
 use Rattle.utc_text.specs.Spelling.{digits, fraction_text, IsFraction, fraction_units, TdfField, InaccuracyField, Unstated, Dashes, Infinite, Seconds, seconds_units, IsInaccuracyField, inaccuracy_text, inaccuracy_said, IsDaysField, sign_text}
-use Rattle.utc_text.specs.FirstWrong.{BeginsNot, EndsFraction, EndsTdf, EndsInaccuracy, EndsSign, PartStands, TdfHourStands, InaccuracyStands, FractionStands}
+use Rattle.utc_text.specs.FirstWrong.{BeginsNot, EndsFraction, EndsTdf, EndsInaccuracy, EndsSign, PartStands, TdfHourStands, TdfMinuteStands, InaccuracyStands, FractionStands}
 use Rattle.utc_text.proofs.DigitLemmas.{digit_octet}
 use Rattle.utc_text.proofs.Again.{two_digits_again, part_again, year_again, digits_again, days_again}
 use Rattle.utc_text.proofs.Takes.{part_takes, hour_takes, hour_absent}
@@ -82,6 +82,19 @@ tdf_made (Some hour) minutes = Some (record { west = hour.0; hours = hour.1; min
 pub hour_stands : (hour : Option (Bool × ℕ)) (minutes : ℕ) (here rest : List ℕ) → tdf_hour_at here ≡ Some (hour, rest) → TdfHourStands (tdf_made hour minutes) here rest
 hour_stands None minutes here rest e = hour_absent here rest e
 hour_stands (Some hour) minutes here rest e = let t = hour_takes here hour.0 hour.1 rest e in (t.right, t.spelled)
+
+-- its minutes, which stand only behind a sign and hours
+abbrev pub minutes_said : Option TdfField → ℕ
+minutes_said None = 0
+minutes_said (Some t) = t.minutes
+
+pub minute_reads : (t : Option TdfField) (hour : Bool × ℕ) (here rest : List ℕ) → hour_said t ≡ Some hour → TdfMinuteStands t here rest → part_at 58 0 59 here ≡ Some (minutes_said t, rest)
+minute_reads None hour here rest e s = absurd cc
+minute_reads (Some t) hour here rest e s = part_reads 58 0 59 t.minutes here rest (omega arith) s
+
+pub no_minute : (t : Option TdfField) (here rest : List ℕ) → hour_said t ≡ None → TdfMinuteStands t here rest → here ≡ rest
+no_minute None here rest e s = s
+no_minute (Some t) here rest e s = absurd cc
 
 -- ---- inaccuracies
 
