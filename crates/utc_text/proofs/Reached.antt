@@ -104,6 +104,10 @@ pub err_kept : {A B : Type 0} (r : Result A TextFault) (f : A → B) (d : TextFa
 err_kept (Ok x) f d e = absurd cc
 err_kept (Err x) f d e = ap (λ (y : TextFault). Err y) (err_is e)
 
+pub err_regrouped : {A B C : Type 0} (r : Result A TextFault) (f : A → Result B TextFault) (g : B → Result C TextFault) (d : TextFault) → reading.◌>>=◌ (reading.◌>>=◌ r f) g ≡ Err d → reading.◌>>=◌ r (λ x. reading.◌>>=◌ (f x) g) ≡ Err d
+err_regrouped (Ok x) f g d e = e
+err_regrouped (Err x) f g d e = e
+
 -- ---- the time of day, read from each of its fields on
 
 abbrev pub units_read : List ℕ → ℕ → ℕ → ℕ → List ℕ → Option (ℕ × List ℕ) → Result (Clock × List ℕ) TextFault
