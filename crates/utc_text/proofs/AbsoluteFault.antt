@@ -1,5 +1,5 @@
 -- The fault of an absolute text names its first wrong field.
-use Rattle.std.proofs.Common.{◌≡◌, ℕ, zero, suc, ◌+◌, ◌*◌, ◌≤◌, Bool, true, false, cond, nat_eq, List, [], ◌∷◌, ◌++◌, length, Option, Some, None, Result, Ok, Err, refl, sym, ap, subst, ◌∙◌, arith, ℤ, pos}
+use Rattle.std.proofs.Common.{◌≡◌, ℕ, ◌+◌, ◌*◌, Bool, cond, nat_eq, List, [], ◌∷◌, length, Option, Some, None, Result, Ok, Err, refl, sym, ap, arith, ℤ, pos}
 use Rattle.std.specs.Prelude.{IfErr}
 use Rattle.jiff_core.specs.Calendar.{days_in_month}
 use Rattle.utc_value.specs.Stamp.{Stamp}
@@ -10,11 +10,11 @@ use Rattle.utc_text.specs.Fields.{part_at, year_at, fraction_at, tdf_hour_at, in
 use Rattle.utc_text.specs.Reading.{YearMonthDay, Clock, Moment, right_at, fault_at, date_of, clock_of, tdf_minute_of, tdf_of, end_of, moment_of, signed, civil_of}
 use Rattle.utc_text.specs.Reading as reading
 use Rattle.utc_text.specs.Texts.{absolute_of, moment_stamp}
-use Rattle.utc_text.specs.Spelling.{AbsoluteFields, ClockField, TdfField, fraction_units, inaccuracy_said, Unstated}
-use Rattle.utc_text.specs.FirstWrong.{Stand, AbsoluteStands, TdfMinuteStands, absolute_order, IsAbsoluteFault}
+use Rattle.utc_text.specs.Spelling.{AbsoluteFields, fraction_units, inaccuracy_said, Unstated}
+use Rattle.utc_text.specs.FirstWrong.{Stand, AbsoluteStands, IsAbsoluteFault}
 use Rattle.utc_text.proofs.Takes.{year_takes, fraction_takes, inaccuracy_takes}
 use Rattle.utc_text.proofs.Standing.{part_reads, part_stands, day_reads, day_stands, year_reads, fraction_reads, hour_said, hour_reads, tdf_made, hour_stands, minutes_said, minute_reads, no_minute, inaccuracy_reads}
-use Rattle.utc_text.proofs.Reached.{Reached, Reads, extended, further, unread, err_is, err_kept, tail_left, units_read, second_read, minute_read, hour_read}
+use Rattle.utc_text.proofs.Reached.{Reached, extended, further, unread, err_is, err_kept, tail_left, units_read, second_read, minute_read, hour_read}
 
 abbrev At : List TextField → List ℕ → List ℕ → (AbsoluteFields → Type 0) → Type 0
 At front text left agrees = Reached AbsoluteStands front text left agrees

@@ -1,5 +1,5 @@
 -- How far a text stands by the grammar, and the first field that does not.
-use Rattle.std.proofs.Common.{◌≡◌, ℕ, suc, ◌+◌, false, cond, nat_eq, List, [], ◌∷◌, ◌++◌, length, Option, Some, None, Result, Ok, Err, refl, sym, ap, subst, ◌∙◌, arith}
+use Rattle.std.proofs.Common.{◌≡◌, ℕ, false, cond, nat_eq, List, [], ◌∷◌, ◌++◌, length, Option, Some, None, Result, Ok, Err, refl, sym, ap, subst, ◌∙◌, arith}
 use Rattle.std.proofs.lemmas.Bool.{ne_eqb}
 use Rattle.utc_text.specs.declared.fault.TextField.{TextField}
 use Rattle.utc_text.specs.declared.fault.TextField.TheVariants.{Hour, Minute, Second, Fraction, Tail}
@@ -78,9 +78,9 @@ further {stands = stands} {front = front} {text = text} {left = left} {agrees = 
   fields = fields;
   before = extended stands front field fields text left x.1 before here;
   same = λ other rest s.
-    let p = next_read stands front field text left agrees said o r reads other rest s in
-    let e = both_same (said other) x.0 rest x.1 (sym p.1 ∙ some) in
-    (e.1, adds other p.0 e.0);
+      let p = next_read stands front field text left agrees said o r reads other rest s in
+      let e = both_same (said other) x.0 rest x.1 (sym p.1 ∙ some) in
+      (e.1, adds other p.0 e.0);
 }
 
 -- a fault that names the first wrong field

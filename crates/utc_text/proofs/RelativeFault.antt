@@ -1,5 +1,5 @@
 -- The fault of a relative text is that its time is too long, or names its first wrong field.
-use Rattle.std.proofs.Common.{◌≡◌, inl, inr, ℕ, ◌+◌, ◌*◌, Bool, true, false, cond, nat_eq, List, [], ◌∷◌, ◌++◌, length, Option, Some, None, Result, Ok, Err, refl, sym, ap, subst, ◌∙◌, arith, ℤ, FitsSigned, w64}
+use Rattle.std.proofs.Common.{◌≡◌, inl, inr, ℕ, ◌+◌, ◌*◌, Bool, true, false, cond, nat_eq, List, [], ◌∷◌, ◌++◌, length, Option, Some, None, Result, Ok, Err, refl, sym, ap, subst, arith, ℤ, FitsSigned, w64}
 use Rattle.std.specs.Prelude.{IfErr}
 use Rattle.std.specs.Str.Parse.{digits_value}
 use Rattle.utc_value.specs.Stamp.{Stamp}

@@ -7,7 +7,7 @@ use Rattle.utc_text.specs.declared.fault.TextField.{TextField}
 use Rattle.utc_text.specs.declared.fault.TextField.TheVariants.{Sign, Year, Month, Day, Days, Hour, Minute, Second, Fraction, TdfHour, TdfMinute, Inaccuracy, Tail}
 use Rattle.utc_text.specs.declared.fault.TextFault.{TextFault}
 use Rattle.utc_text.specs.Reading.{fault_at, signed}
-use Rattle.utc_text.specs.Spelling.{digits, fraction_text, IsFraction, ClockField, TdfField, InaccuracyField, Unstated, Dashes, Infinite, Seconds, inaccuracy_text, IsInaccuracyField, AbsoluteFields, IsDaysField, sign_text, RelativeFields, relative_units}
+use Rattle.utc_text.specs.Spelling.{digits, fraction_text, IsFraction, TdfField, InaccuracyField, Unstated, Dashes, Infinite, Seconds, inaccuracy_text, IsInaccuracyField, AbsoluteFields, IsDaysField, sign_text, RelativeFields, relative_units}
 
 -- the octets do not begin with one of these
 abbrev pub BeginsNot : (ℕ → Bool) → List ℕ → Type 0

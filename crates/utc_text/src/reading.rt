@@ -1,11 +1,12 @@
 //! Reads texts of times, field by field.
 
-ghost use Rattle.std.specs.Prelude.{◌≡◌, ◌≤◌, ◌<◌, ◌^◌, ◌+◌, ◌-◌, ◌*◌, if◌then◌else◌, Ok, pos, neg_ℤ, ◌≤ℤ◌, FitsSigned, IfOk, IfSome};
+ghost use Rattle.std.specs.Prelude.{◌≡◌, ◌≤◌, ◌<◌, ◌^◌, ◌+◌, ◌-◌, ◌*◌, if◌then◌else◌, Ok, pos, neg_ℤ, ◌≤ℤ◌, FitsSigned, IfOk, IfErr, IfSome};
 ghost use Rattle.std.specs.Int.{w64, IsInRange};
 ghost use Rattle.jiff_core.specs.Calendar.{days_in_month};
 ghost use Rattle.utc_value.specs.Stamp.{IsTdf, IsInaccuracy};
 ghost use Rattle.utc_text.specs.Civil.{clock_units, IsCivil, IsWrittenYear};
 ghost use Rattle.utc_text.specs.Fields.{GivesField};
+ghost use Rattle.utc_text.specs.FirstWrong.{IsAbsoluteFault, IsRelativeFault};
 ghost use Rattle.utc_text.specs.Spelling.{AbsoluteFields, IsAbsolute, absolute_text, absolute_said, RelativeFields, IsRelative, relative_text, relative_said};
 ghost use Rattle.utc_text.specs.Texts.{absolute_of, relative_of, moment_stamp, length_stamp};
 ghost use Rattle.utc_text.specs.Reading.{GivesText, signed, fits_time, Clock as ClockText, YearMonthDay, Moment as MomentText, Length as LengthText, fault_at, right_at, date_of, clock_of, tdf_minute_of, tdf_of, end_of, moment_of, sign_at, time_of, length_of};
@@ -253,6 +254,7 @@ pub fn parse_abs(text: &[u8]) -> Result<Utc, TextFault>
     ensures exact { result ≡ absolute_of text.now }
     ensures found { IfOk result (λ u. (f : AbsoluteFields) × IsAbsolute f × (text.now ≡ absolute_text f) × (u ≡ moment_stamp (absolute_said f))) }
     ensures only { (f : AbsoluteFields) → IsAbsolute f → text.now ≡ absolute_text f → result ≡ Ok (moment_stamp (absolute_said f)) }
+    ensures first_wrong { IfErr result (λ fault. IsAbsoluteFault text.now fault) }
 {
     read_absolute(text)
 }
@@ -273,6 +275,7 @@ pub fn parse_rel(text: &[u8]) -> Result<Utc, TextFault>
     ensures exact { result ≡ relative_of text.now }
     ensures found { IfOk result (λ u. (f : RelativeFields) × IsRelative f × (text.now ≡ relative_text f) × (u ≡ length_stamp (relative_said f))) }
     ensures only { (f : RelativeFields) → IsRelative f → text.now ≡ relative_text f → result ≡ Ok (length_stamp (relative_said f)) }
+    ensures first_wrong { IfErr result (λ fault. IsRelativeFault text.now fault) }
 {
     read_relative(text)
 }

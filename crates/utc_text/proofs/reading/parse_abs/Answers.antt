@@ -1,5 +1,6 @@
 use Rattle.std.proofs.Common.{◌∙◌}
 use Rattle.utc_text.proofs.Laws.{absolute_only, absolute_found}
+use Rattle.utc_text.proofs.AbsoluteFault.{absolute_fault}
 use Rattle.utc_text.proofs.reading.parse_abs.Goals as goal
 
 pub returns-clause-only : goal.returns-clause-only
@@ -7,3 +8,6 @@ returns-clause-only c = λ f h e. c.read_absolute.ensures ∙ absolute_only c.ar
 
 pub returns-clause-found : goal.returns-clause-found
 returns-clause-found c = absolute_found c.args.text.now c.read_absolute.result c.read_absolute.ensures
+
+pub returns-clause-first_wrong : goal.returns-clause-first_wrong
+returns-clause-first_wrong c = absolute_fault c.args.text.now c.read_absolute.result c.read_absolute.ensures

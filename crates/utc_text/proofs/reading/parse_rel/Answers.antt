@@ -1,5 +1,6 @@
 use Rattle.std.proofs.Common.{◌∙◌}
 use Rattle.utc_text.proofs.Laws.{relative_only, relative_found}
+use Rattle.utc_text.proofs.RelativeFault.{relative_fault}
 use Rattle.utc_text.proofs.reading.parse_rel.Goals as goal
 
 pub returns-clause-only : goal.returns-clause-only
@@ -7,3 +8,6 @@ returns-clause-only c = λ f h e. c.read_relative.ensures ∙ relative_only c.ar
 
 pub returns-clause-found : goal.returns-clause-found
 returns-clause-found c = relative_found c.args.text.now c.read_relative.result c.read_relative.ensures
+
+pub returns-clause-first_wrong : goal.returns-clause-first_wrong
+returns-clause-first_wrong c = relative_fault c.args.text.now c.read_relative.result c.read_relative.ensures
