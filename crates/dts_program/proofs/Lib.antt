@@ -1,10 +1,8 @@
-pub mod LineFacts
 pub mod CaptureFacts
 pub mod Taking
 pub mod Refusing
 pub mod Stepping
 pub mod Deciding
 pub mod Writing
-pub mod Advancing
 pub mod Reaching
 pub mod Answering

@@ -1,179 +1,186 @@
--- How far the input was read.
-use Rattle.std.proofs.Common.{◌≡◌, inl, ℕ, ◌+◌, ◌^◌, ◌<◌, List, [], ◌∷◌, ◌++◌, length, take, Option, Some, None, Result, Ok, Err, refl, sym, ap, ◌∙◌, subst, append_assoc, arith}
+-- How far the input was read and replayed.
+use Rattle.std.proofs.Common.{◌≡◌, inl, inr, ℕ, ◌+◌, ◌<◌, Bool, true, false, List, [], ◌∷◌, ◌++◌, length, Option, Some, None, Result, Ok, Err, refl, sym, ap, ◌∙◌, subst, append_assoc, arith}
 use Rattle.std.proofs.lemmas.List.{append-nil, length-append}
 use Rattle.dts_base.specs.Told.{Told}
-use Rattle.dts_base.specs.Streams.{Reads}
 use Rattle.dts_base.proofs.ToldFacts.{Told-same}
 use Rattle.slew_clock.specs.declared.rates.Rates.{Rates}
 use Rattle.dts_capture.specs.declared.line.LineCause.TheVariants as cause
+use Rattle.line_reader.specs.Lines.{lines_of}
+use Rattle.line_reader.specs.Reader.{Reader, Advances, HasTaken, IsLong}
+use Rattle.line_reader.proofs.Reading.{taken_none, taken_more, taken_all}
 use Rattle.dts_program.specs.declared.replay.Replay.{Replay}
 use Rattle.dts_program.specs.declared.status.Status.{Status}
 use Rattle.dts_program.specs.declared.status.Status.TheVariants as status
 use Rattle.dts_program.specs.declared.status.SourceName.TheVariants as source
-use Rattle.dts_program.specs.Lines.{lines_of, IsLine, AreLines, with_feeds, last_line}
-use Rattle.dts_program.specs.Capture.{Capture, Begins, RefusedLine}
-use Rattle.dts_program.specs.Output.{IsPart, Replays, output_of}
-use Rattle.dts_program.specs.Standing.{StandsAt, IsStanding}
-use Rattle.dts_program.specs.Progress.{Stands, HasReplayed, HasRead, Takes}
-use Rattle.dts_program.proofs.LineFacts.{lines_of-lines, lines_of-last, lines_of-nothing, begins_first, AreLines-append}
+use Rattle.dts_program.specs.Capture.{Capture, RefusedLine}
+use Rattle.dts_program.specs.Output.{IsPart, Stops, Replays, output_of}
+use Rattle.dts_program.specs.Standing.{StandsAt}
+use Rattle.dts_program.specs.Progress.{Stands, HasStopped, HasReplayed}
 use Rattle.dts_program.proofs.Refusing.{refused_unspelled}
-use Rattle.dts_program.proofs.Advancing.{part_here, stopped_more, all_then}
 
--- a source that tells what is left tells it after a read
-pub told_on : {T : Type 0} (before after : Option (List ℕ)) (more buf : List ℕ) (result : Result ℕ T) → Told before after (Reads result buf) → before ≡ Some more
-    → (new : List ℕ) × (after ≡ Some new) × Reads result buf more new
-told_on before after more buf result told is = subst (λ b. Told b after (Reads result buf)) is told
-
--- nothing is read yet
-pub read_none : (rates : Rates) (octets pending : List ℕ) (replay : Replay) (before now left : Option (List ℕ)) → Stands rates [] replay before now → pending ≡ [] → left ≡ Some octets
-    → HasRead rates octets pending replay before now left
-read_none rates octets pending replay before now left stands none is = record {
-  taken = [];
-  more = octets;
-  are = tt;
-  stands = stands;
-  left_is = is;
-  all = ap (λ p. p ++ octets) (sym none);
-}
-
--- one more piece
-pub read_more : (rates : Rates) (octets pending kept buf : List ℕ) (n : ℕ) (old new : Replay) (before told_old told_new left left' : Option (List ℕ)) → HasRead rates octets pending old before told_old left
-    → (let count : Result ℕ Status = Ok n in Told left left' (Reads count buf))
-    → (let done : Result (Unit {0}) Status = Ok tt in Takes (pending ++ take n buf) (λ x. kept) old new told_old told_new done)
-    → HasRead rates octets kept new before told_new left'
-read_more rates octets pending kept buf n old new before told_old told_new left left' has told takes =
-    let on = told_on {T = Status} left left' has.more buf (Ok n) told has.left_is in
-    record {
-      taken = has.taken ++ takes.taken;
-      more = on.0;
-      are = AreLines-append has.taken takes.taken has.are takes.are;
-      stands = takes.goes rates has.taken before has.stands;
-      left_is = on.1;
-      all = all_then octets (pending ++ has.more) (kept ++ on.0) has.taken takes.taken has.all
-          (ap (λ x. pending ++ x) on.2.0 ∙ sym (append_assoc pending (take n buf) on.0) ∙ ap (λ x. x ++ on.0) takes.all
-          ∙ append_assoc (with_feeds takes.taken) takes.rest on.0 ∙ ap (λ x. with_feeds takes.taken ++ (x ++ on.0)) (sym takes.left_is.0));
-    }
-
--- the end of the input
-pub read_ended : (rates : Rates) (octets pending buf : List ℕ) (n : ℕ) (replay : Replay) (before now left left' : Option (List ℕ)) → HasRead rates octets pending replay before now left
-    → (let count : Result ℕ Status = Ok n in Told left left' (Reads count buf)) → n ≡ 0 → 0 < length buf
-    → HasRead rates octets pending replay before now left' × (left' ≡ Some [])
-read_ended rates octets pending buf n replay before now left left' has told none room =
-    let on = told_on {T = Status} left left' has.more buf (Ok n) told has.left_is in
-    let empty : has.more ≡ [] = on.2.1 none room in
-    let nothing : on.0 ≡ [] = ap (λ k. take k buf ++ on.0) (sym none) ∙ sym on.2.0 ∙ empty in (
-      record {
-        taken = has.taken;
-        more = on.0;
-        are = has.are;
-        stands = has.stands;
-        left_is = on.1;
-        all = has.all ∙ ap (λ x. with_feeds has.taken ++ (pending ++ x)) (empty ∙ sym nothing);
-      },
-      on.1 ∙ ap Some nothing,
-    )
-
--- a source that told what was left tells that nothing is left
-pub told_end : (before after : Option (List ℕ)) (more buf : List ℕ) (n : ℕ) → (let count : Result ℕ Status = Ok n in Told before after (Reads count buf)) → before ≡ Some more → n ≡ 0 → 0 < length buf → after ≡ Some []
-told_end before after more buf n told is none room =
-    let on = told_on {T = Status} before after more buf (Ok n) told is in
-    on.1 ∙ ap Some (ap (λ k. take k buf ++ on.0) (sym none) ∙ sym on.2.0 ∙ on.2.1 none room)
-
--- the source told all lines of the octets
-lines_read : (octets pending more : List ℕ) (taken : List (List ℕ)) → AreLines taken → octets ≡ with_feeds taken ++ (pending ++ more) → lines_of octets ≡ taken ++ lines_of (pending ++ more)
-lines_read octets pending more taken are all = ap lines_of all ∙ lines_of-lines taken (pending ++ more) are
-
-pub read_fails : (rates : Rates) (octets pending : List ℕ) (replay : Replay) (s : Status) (before now left : Option (List ℕ)) → HasRead rates octets pending replay before now left
-    → s ≡ status.ReadFault source.Input → HasReplayed rates (lines_of octets) s before now
-read_fails rates octets pending replay s before now left has is = record {
-  text = output_of rates has.stands.capture;
-  replays = subst (λ z. Replays rates (lines_of octets) z (output_of rates has.stands.capture)) (sym is) (
-    refl,
-    subst (λ ts. IsPart rates ts (output_of rates has.stands.capture)) (sym (lines_read octets pending has.more has.taken has.are has.all))
-        (part_here rates has.taken (lines_of (pending ++ has.more)) replay before now has.stands),
-  );
-  wrote = has.stands.wrote;
-}
-
-pub piece_stops : {T : Type 0} (rates : Rates) (octets pending buf : List ℕ) (n : ℕ) (left_of : T → List ℕ) (old new : Replay) (s : Status) (before told_old told_new left left' : Option (List ℕ)) → HasRead rates octets pending old before told_old left
-    → (let count : Result ℕ Status = Ok n in Told left left' (Reads count buf))
-    → (let stopped : Result T Status = Err s in Takes (pending ++ take n buf) left_of old new told_old told_new stopped)
-    → HasReplayed rates (lines_of octets) s before told_new
-piece_stops rates octets pending buf n left_of old new s before told_old told_new left left' has told takes =
-    let on = told_on {T = Status} left left' has.more buf (Ok n) told has.left_is in
-    let lines = has.taken ++ takes.taken in
-    let all : octets ≡ with_feeds lines ++ (takes.rest ++ on.0) = all_then octets (pending ++ has.more) (takes.rest ++ on.0) has.taken takes.taken has.all
-    (ap (λ x. pending ++ x) on.2.0 ∙ sym (append_assoc pending (take n buf) on.0) ∙ ap (λ x. x ++ on.0) takes.all
-    ∙ append_assoc (with_feeds takes.taken) takes.rest on.0) in
-    subst (λ ts. HasReplayed rates ts s before told_new) (sym (lines_read octets takes.rest on.0 lines (AreLines-append has.taken takes.taken has.are takes.are) all))
-    (stopped_more rates lines (lines_of (takes.rest ++ on.0)) s before told_new (takes.goes rates has.taken before has.stands))
-
--- a line that was begun with too many octets is refused
-long_line : (octet : ℕ) (octets more : List ℕ) (taken : List (List ℕ)) (capture : Option Capture) → IsLine (octet ∷ octets) → 16384 < length (octet ∷ octets) → Begins taken capture
-    → RefusedLine (taken ++ lines_of ((octet ∷ octets) ++ more)) (length taken + 1) capture
-long_line octet octets more taken capture is long begins =
-    let first = begins_first octet octets more is in
-    record {
-      front = taken;
-      line = (octet ∷ octets) ++ first.more;
-      rest = first.others;
-      all = ap (λ x. taken ++ x) first.are;
-      number = refl;
-      before = begins;
-      refused = refused_unspelled taken ((octet ∷ octets) ++ first.more) (λ v spells. omega (arith, spells.1, length-append (octet ∷ octets) first.more));
-    }
-
-pub too_long : (rates : Rates) (octets pending : List ℕ) (replay : Replay) (s : Status) (before now left : Option (List ℕ)) → HasRead rates octets pending replay before now left
-    → IsLine pending → 16384 < length pending → s ≡ status.CaptureRefused (replay.lines + 1) 1 cause.Word → HasReplayed rates (lines_of octets) s before now
-too_long rates octets [] replay s before now left has is long refusal = absurd (omega arith)
-too_long rates octets (x ∷ xs) replay s before now left has is long refusal = record {
-  text = output_of rates has.stands.capture;
-  replays = subst (λ z. Replays rates (lines_of octets) z (output_of rates has.stands.capture)) (sym (refusal ∙ ap (λ n. status.CaptureRefused (n + 1) 1 cause.Word) has.stands.at.count)) (
-    has.stands.capture,
-    inl (subst (λ ts. RefusedLine ts (length has.taken + 1) has.stands.capture) (sym (lines_read octets (x ∷ xs) has.more has.taken has.are has.all))
-        (long_line x xs has.more has.taken has.stands.capture is long has.stands.at.begins)),
-    (refl, refl),
-    refl,
-  );
-  wrote = has.stands.wrote;
-}
-
--- the lines of the whole input are those that were taken and the last one
-lines_of-pending : (pending : List ℕ) → IsLine pending → lines_of pending ≡ last_line pending
-lines_of-pending [] is = lines_of-nothing
-lines_of-pending (x ∷ xs) is = lines_of-last x xs is
-
-pub lines_ended : (rates : Rates) (octets pending : List ℕ) (replay : Replay) (before now left : Option (List ℕ)) → (has : HasRead rates octets pending replay before now left) → IsLine pending → left ≡ Some []
-    → lines_of octets ≡ has.taken ++ last_line pending
-lines_ended rates octets pending replay before now left has is ended =
-    let none : has.more ≡ [] = let e : Some has.more ≡ Some [] = sym has.left_is ∙ ended in cc in
-    lines_read octets pending has.more has.taken has.are has.all
-    ∙ ap (λ x. has.taken ++ lines_of x) (ap (λ m. pending ++ m) none ∙ append-nil pending)
-    ∙ ap (λ x. has.taken ++ x) (lines_of-pending pending is)
+-- Of these octets the lines that were read were taken.
+pub record HasRead (rates : Rates) (octets : List ℕ) (reader : Reader) (replay : Replay) (before now left : Option (List ℕ)) : Type 0 where
+  pub taken : List (List ℕ)
+  pub read : HasTaken octets taken reader left
+  pub stands : Stands rates taken replay before now
 
 -- a replay that took no line yet, and wrote nothing
-pub begun_stands : (rates : Rates) (replay : Replay) (told : Option (List ℕ)) → StandsAt rates replay [] None → Stands rates [] replay told told
+begun_stands : (rates : Rates) (replay : Replay) (told : Option (List ℕ)) → StandsAt rates replay [] None → Stands rates [] replay told told
 begun_stands rates replay told at = record {
   capture = None;
   at = at;
   wrote = Told-same _ told (λ x. sym (append-nil x));
 }
 
+pub read_none : (rates : Rates) (octets : List ℕ) (reader : Reader) (replay : Replay) (told left : Option (List ℕ)) → StandsAt rates replay [] None → reader.ahead ≡ [] → left ≡ Some octets
+    → HasRead rates octets reader replay told told left
+read_none rates octets reader replay told left at none is = record {
+  taken = [];
+  read = taken_none octets reader left is none;
+  stands = begun_stands rates replay told at;
+}
+
 -- want of memory before anything was read
-pub nothing_read : (rates : Rates) (texts : List (List ℕ)) (s : Status) (told : Option (List ℕ)) → s ≡ status.NoMemory → HasReplayed rates texts s told told
-nothing_read rates texts s told is = record {
+pub nothing_read : (rates : Rates) (texts : List (List ℕ)) (told : Option (List ℕ)) → HasReplayed rates texts status.NoMemory told told
+nothing_read rates texts told = record {
   text = [];
-  replays = subst (λ z. Replays rates texts z []) (sym is) (record {
+  replays = record {
     front = [];
     rest = texts;
     all = refl;
     capture = None;
     begins = record { values = []; spelled = tt; says = refl; few = omega arith };
     beginning = ([], refl);
-  });
+  };
   wrote = Told-same _ told (λ x. sym (append-nil x));
 }
 
--- a standing replay took fewer than 2^32 lines
-pub few_lines : (replay : Replay) → IsStanding replay → replay.lines < 2 ^ 32
-few_lines replay (rates, texts, capture, stands) = omega (arith, stands.count, stands.begins.few)
+-- a replay that stops where the input fails has written the beginning of a log
+part_here : (rates : Rates) (texts more : List (List ℕ)) (replay : Replay) (before now : Option (List ℕ)) → (stands : Stands rates texts replay before now) → IsPart rates (texts ++ more) (output_of rates stands.capture)
+part_here rates texts more replay before now stands = record {
+  front = texts;
+  rest = more;
+  all = refl;
+  capture = stands.capture;
+  begins = stands.at.begins;
+  beginning = ([], sym (append-nil (output_of rates stands.capture)));
+}
+
+part_more : (rates : Rates) (texts more : List (List ℕ)) (text : List ℕ) → IsPart rates texts text → IsPart rates (texts ++ more) text
+part_more rates texts more text part = record {
+  front = part.front;
+  rest = part.rest ++ more;
+  all = ap (λ x. x ++ more) part.all ∙ append_assoc part.front part.rest more;
+  capture = part.capture;
+  begins = part.begins;
+  beginning = part.beginning;
+}
+
+refused_more : (texts more : List (List ℕ)) (n : ℕ) (capture : Option Capture) → RefusedLine texts n capture → RefusedLine (texts ++ more) n capture
+refused_more texts more n capture refused = record {
+  front = refused.front;
+  line = refused.line;
+  rest = refused.rest ++ more;
+  all = ap (λ x. x ++ more) refused.all ∙ append_assoc refused.front (refused.line ∷ refused.rest) more;
+  number = refused.number;
+  before = refused.before;
+  refused = refused.refused;
+}
+
+stops_replays : (rates : Rates) (texts more : List (List ℕ)) (s : Status) (text : List ℕ) → Stops rates texts s text → Replays rates (texts ++ more) s text
+stops_replays rates texts more status.Done text stops = absurd stops
+stops_replays rates texts more status.Usage text stops = absurd stops
+stops_replays rates texts more (status.CaptureRefused n column why) text (capture, refused, fault, is) = (capture, inl (refused_more texts more n capture refused), fault, is)
+stops_replays rates texts more (status.ReadFault which) text (is, part) = (is, part_more rates texts more text part)
+stops_replays rates texts more (status.WriteFault which) text (is, part) = (is, part_more rates texts more text part)
+stops_replays rates texts more status.NoMemory text part = part_more rates texts more text part
+
+-- a stopped replay among more lines
+stopped_more : (rates : Rates) (texts more : List (List ℕ)) (s : Status) (before now : Option (List ℕ)) → HasStopped rates texts s before now → HasReplayed rates (texts ++ more) s before now
+stopped_more rates texts more s before now stopped = record {
+  text = stopped.text;
+  replays = stops_replays rates texts more s stopped.text stopped.stops;
+  wrote = stopped.wrote;
+}
+
+-- a read of the input failed
+pub read_fails : (rates : Rates) (octets : List ℕ) (reader : Reader) (replay : Replay) (s : Status) (before now left : Option (List ℕ)) → HasRead rates octets reader replay before now left
+    → s ≡ status.ReadFault source.Input → HasReplayed rates (lines_of octets) s before now
+read_fails rates octets reader replay s before now left has is = record {
+  text = output_of rates has.stands.capture;
+  replays = subst (λ z. Replays rates (lines_of octets) z (output_of rates has.stands.capture)) (sym is) (
+    refl,
+    subst (λ ts. IsPart rates ts (output_of rates has.stands.capture)) (sym has.read.lines) (part_here rates has.taken (lines_of (reader.ahead ++ has.read.more)) replay before now has.stands),
+  );
+  wrote = has.stands.wrote;
+}
+
+-- a line with too many octets is refused
+too_long : (rates : Rates) (octets line : List ℕ) (taken : List (List ℕ)) (replay : Replay) (s : Status) (before now : Option (List ℕ)) → Stands rates taken replay before now
+    → IsLong 16384 octets taken line → s ≡ status.CaptureRefused (replay.lines + 1) 1 cause.Word → HasReplayed rates (lines_of octets) s before now
+too_long rates octets line taken replay s before now stands long refusal = record {
+  text = output_of rates stands.capture;
+  replays = subst (λ z. Replays rates (lines_of octets) z (output_of rates stands.capture)) (sym (refusal ∙ ap (λ n. status.CaptureRefused (n + 1) 1 cause.Word) stands.at.count)) (
+    stands.capture,
+    inl (record {
+      front = taken;
+      line = long.first;
+      rest = long.others;
+      all = long.lines;
+      number = refl;
+      before = stands.at.begins;
+      refused = refused_unspelled taken long.first (λ v spells. omega (arith, spells.1, long.long, ap length long.beginning.1, length-append line long.beginning.0));
+    }),
+    (refl, refl),
+    refl,
+  );
+  wrote = stands.wrote;
+}
+
+-- what a replay does with a line of more octets
+abbrev pub RefusesLong : List ℕ → Replay → Result (Unit {0}) Status → Option (List ℕ) → Option (List ℕ) → Type 0
+RefusesLong line replay result told now = 16384 < length line → (result ≡ Err (status.CaptureRefused (replay.lines + 1) 1 cause.Word)) × (now ≡ told)
+
+-- whether the reader went on to a line
+abbrev pub WentOn : Bool → Reader → Reader → Option (List ℕ) → Option (List ℕ) → Type 0
+WentOn there old new left left' = let next : Result Bool Status = Ok there in Told left left' (Advances 16384 old new next)
+
+went_on : (there is : Bool) (old new : Reader) (left left' : Option (List ℕ)) → WentOn there old new left left' → there ≡ is → WentOn is old new left left'
+went_on there is old new left left' on e = subst (λ (b : Bool). WentOn b old new left left') e on
+
+-- the next line was taken
+pub read_more : (rates : Rates) (octets line : List ℕ) (there : Bool) (old new : Reader) (replay after : Replay) (before told now left left' : Option (List ℕ)) → HasRead rates octets old replay before told left
+    → WentOn there old new left left' → there ≡ true → line ≡ new.line
+    → ((texts : List (List ℕ)) → Stands rates texts replay before told → Stands rates (texts ++ line ∷ []) after before now) → RefusesLong line replay (Ok tt) told now
+    → HasRead rates octets new after before now left'
+read_more rates octets line there old new replay after before told now left left' has on goes_on is goes long =
+    elim (taken_more Status 16384 octets has.taken old new left left' has.read (went_on there true old new left left' on goes_on)) [
+      | inl taken ↦ record {
+        taken = has.taken ++ new.line ∷ [];
+        read = taken;
+        stands = subst (λ l. Stands rates (has.taken ++ l ∷ []) after before now) is (goes has.taken has.stands);
+      }
+      | inr more ↦ absurd (let refusal = (long (omega (arith, more.long, ap length is))).0 in cc)
+    ]
+
+-- the next line stopped the replay
+pub line_stops : (rates : Rates) (octets line : List ℕ) (there : Bool) (old new : Reader) (replay : Replay) (s : Status) (before told now left left' : Option (List ℕ)) → HasRead rates octets old replay before told left
+    → WentOn there old new left left' → there ≡ true → line ≡ new.line
+    → ((texts : List (List ℕ)) → Stands rates texts replay before told → HasStopped rates (texts ++ line ∷ []) s before now) → RefusesLong line replay (Err s) told now
+    → HasReplayed rates (lines_of octets) s before now
+line_stops rates octets line there old new replay s before told now left left' has on goes_on is stops long =
+    elim (taken_more Status 16384 octets has.taken old new left left' has.read (went_on there true old new left left' on goes_on)) [
+      | inl taken ↦ subst (λ ts. HasReplayed rates ts s before now) (sym taken.lines)
+          (stopped_more rates (has.taken ++ new.line ∷ []) (lines_of (new.ahead ++ taken.more)) s before now
+          (subst (λ l. HasStopped rates (has.taken ++ l ∷ []) s before now) is (stops has.taken has.stands)))
+      | inr more ↦
+          let refused = long (omega (arith, more.long, ap length is)) in
+          let refusal : s ≡ status.CaptureRefused (replay.lines + 1) 1 cause.Word = let e = refused.0 in cc in
+          subst (λ n. HasReplayed rates (lines_of octets) s before n) (sym refused.1) (too_long rates octets new.line has.taken replay s before told has.stands more refusal)
+    ]
+
+-- the input has ended
+pub read_all : (rates : Rates) (octets : List ℕ) (there : Bool) (old new : Reader) (replay : Replay) (before now left left' : Option (List ℕ)) → (has : HasRead rates octets old replay before now left)
+    → WentOn there old new left left' → there ≡ false → (lines_of octets ≡ has.taken) × (left' ≡ Some [])
+read_all rates octets there old new replay before now left left' has on ends =
+    taken_all Status 16384 octets has.taken old new left left' has.read (went_on there false old new left left' on ends)

@@ -7,7 +7,7 @@ use Rattle.dts_capture.specs.Capture.{Spells}
 use Rattle.slew_clock.specs.declared.rates.Rates.{Rates}
 use Rattle.sync_rules.specs.History.{History, Begun, Start}
 use Rattle.sync_rules.specs.Rules.{extended}
-use Rattle.dts_program.specs.Lines.{lines_of}
+use Rattle.line_reader.specs.Lines.{lines_of}
 
 -- a start, and the events after it in their order
 pub record Capture : Type 0 where

@@ -1,4 +1,3 @@
-pub mod Lines
 pub mod Capture
 pub mod Output
 pub mod Numbers

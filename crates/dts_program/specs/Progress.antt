@@ -1,9 +1,8 @@
 -- How far a replay has come, and what it wrote. Our own choice.
-use Rattle.std.specs.Prelude.{◌≡◌, ◌⊎◌, ℕ, ◌≤◌, List, ◌++◌, Option, Some, Result, MatchResult, IfOk, IsErrOf}
+use Rattle.std.specs.Prelude.{◌≡◌, ◌⊎◌, ℕ, ◌≤◌, List, Option, Result, MatchResult, IsErrOf}
 use Rattle.dts_base.specs.Causes.{Rose}
 use Rattle.dts_base.specs.Streams.{BeginsWith}
 use Rattle.slew_clock.specs.declared.rates.Rates.{Rates}
-use Rattle.dts_program.specs.Lines.{IsLine, AreLines, with_feeds}
 use Rattle.dts_program.specs.Capture.{Capture}
 use Rattle.dts_program.specs.Output.{output_of, Stops, Replays, Wrote}
 use Rattle.dts_program.specs.Standing.{StandsAt}
@@ -68,21 +67,3 @@ pub record HasReplayed (rates : Rates) (texts : List (List ℕ)) (s : Status) (b
 -- the lines are all, and the replay is done or stopped
 abbrev pub Finishes : {T : Type 0} → Rates → List (List ℕ) → Option (List ℕ) → Option (List ℕ) → Result T Status → Type 0
 Finishes rates texts before now result = MatchResult result (λ _. HasReplayed rates texts status.Done before now) (λ s. HasReplayed rates texts s before now)
-
--- Of these octets the whole lines were taken, or the replay stopped among them; at the end `left` has what is left.
-pub record Takes {T : Type 0} (octets : List ℕ) (left : T → List ℕ) (old new : Replay) (told_old told_new : Option (List ℕ)) (result : Result T Status) : Type 0 where
-  pub taken : List (List ℕ)
-  pub rest : List ℕ
-  pub are : AreLines taken
-  pub all : octets ≡ with_feeds taken ++ rest
-  pub left_is : IfOk result (λ x. (left x ≡ rest) × IsLine rest)
-  pub goes : (rates : Rates) (texts : List (List ℕ)) (before : Option (List ℕ)) → Stands rates texts old before told_old → Goes rates (texts ++ taken) new before told_new result
-
--- Of these octets the lines were taken up to the last line feed that was read, behind which stands `pending`; the source tells the rest.
-pub record HasRead (rates : Rates) (octets pending : List ℕ) (replay : Replay) (before now left : Option (List ℕ)) : Type 0 where
-  pub taken : List (List ℕ)
-  pub more : List ℕ
-  pub are : AreLines taken
-  pub stands : Stands rates taken replay before now
-  pub left_is : left ≡ Some more
-  pub all : octets ≡ with_feeds taken ++ (pending ++ more)

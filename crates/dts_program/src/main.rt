@@ -4,10 +4,8 @@
 ghost use Rattle.std.specs.Prelude.{◌≡◌, IfOk, vec_len};
 
 mod command;
-mod lines;
 mod node;
 mod outside;
-mod reader;
 mod replay;
 mod status;
 #[cfg(test)]

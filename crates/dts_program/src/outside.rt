@@ -2,7 +2,7 @@ ghost use Rattle.std.specs.Prelude.{◌≡◌, ◌⊎◌, ◌↔◌, ℕ, ◌≤
 ghost use Rattle.std.specs.String.{string_bytes};
 ghost use Rattle.dts_base.specs.Causes.{Rose};
 ghost use Rattle.slew_clock.specs.UsualRates.{usual_rates};
-ghost use Rattle.dts_program.specs.Lines.{lines_of};
+ghost use Rattle.line_reader.specs.Lines.{lines_of};
 ghost use Rattle.dts_program.specs.Capture.{Capture, IsCapture};
 ghost use Rattle.dts_program.specs.Output.{WroteSafely};
 ghost use Rattle.dts_program.specs.Progress.{HasReplayed};

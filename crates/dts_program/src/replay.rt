@@ -5,7 +5,6 @@ ghost use Rattle.dts_program.specs.Capture.{Capture};
 ghost use Rattle.dts_program.specs.Output.{Wrote};
 ghost use Rattle.dts_program.specs.Progress.{IsWriteEnd, WrotePart, TakeCause};
 
-use crate::lines::first_line;
 use crate::node::Node;
 use crate::status::{SinkName, Status};
 use dts_base::{Sink, write_all};
@@ -25,7 +24,7 @@ pub struct Replay {
 
 impl Replay {
     ghost use Rattle.dts_program.specs.Standing.{StandsAt, IsStanding, Took, GoesNoFurther};
-    ghost use Rattle.dts_program.specs.Progress.{Stands, Goes, Takes, Finishes};
+    ghost use Rattle.dts_program.specs.Progress.{Stands, Goes, Finishes};
 
     /// A replay that took no line yet.
     pub fn new(rates: Rates) -> Replay
@@ -38,8 +37,8 @@ impl Replay {
         }
     }
 
-    /// The refusal of the next line.
-    pub fn refusal(&self) -> Status
+    // The refusal of the next line.
+    fn refusal(&self) -> Status
         requires { self.now.lines < 2 ^ 32 }
         ensures { result ≡ Status.CaptureRefused (self.now.lines + 1) 1 LineCause.Word }
     {
@@ -59,6 +58,7 @@ impl Replay {
         ensures refused { OnErr result ((rates : Rates) (texts : List (List ℕ)) (capture : Option Capture) →
             StandsAt rates self.old texts capture → GoesNoFurther texts line.now) }
         ensures counted { OnOk result (self.new.lines ≡ self.old.lines + 1) }
+        ensures short { OnOk result (length line.now ≤ 16384) }
     {
         if self.lines >= MAX_LINES {
             return Err(self.refusal());
@@ -119,33 +119,13 @@ impl Replay {
         ensures counted { OnOk result (self.new.lines ≡ self.old.lines + 1) }
         ensures goes { (rates : Rates) (texts : List (List ℕ)) (before : Option (List ℕ)) →
             Stands rates texts self.old before (O.written output.old) → Goes rates (texts ++ line.now ∷ []) self.new before (O.written output.new) result }
+        ensures long { 16384 < length line.now → (result ≡ Err (Status.CaptureRefused (self.old.lines + 1) 1 LineCause.Word)) × (O.written output.new ≡ O.written output.old) }
         ensures cause { TakeCause (O.faults output.old) (O.faults output.new) result }
     {
         match self.take(line)? {
             None => Ok(()),
             Some(action) => write_action(log, &action, output),
         }
-    }
-
-    /// Takes the whole lines of a piece, and answers what is left of it.
-    pub fn take_lines<'a, O: Sink>(
-        &mut self,
-        log: &mut String,
-        piece: &'a [u8],
-        output: &mut O,
-    ) -> Result<&'a [u8], Status>
-        requires { IsStanding self.old }
-        ensures standing { OnOk result (IsStanding self.new) }
-        ensures counted { OnOk result (self.old.lines ≤ self.new.lines) }
-        ensures takes { Takes piece.now (λ left. left.now) self.old self.new (O.written output.old) (O.written output.new) result }
-        ensures cause { TakeCause (O.faults output.old) (O.faults output.new) result }
-    {
-        let mut rest = piece;
-        while let Some((line, after)) = first_line(rest) {
-            self.take_line(log, line, output)?;
-            rest = after;
-        }
-        Ok(rest)
     }
 }
 
