@@ -8,9 +8,10 @@ use std::marker::Model;
 /// The greatest time count of a capture, in units of 100 ns.
 const MAX_COUNT: u64 = 1 << 61;
 
-/// The fields of a line that were not read yet. Clauses see their list.
+/// The fields of a line that were not read yet, which single spaces join. Clauses see their list. Our own
+/// choice.
 #[derive(Drop)]
-pub(crate) struct Fields<'a> {
+pub struct Fields<'a> {
     rest: Option<&'a [u8]>,
 }
 

@@ -8,6 +8,7 @@ mod log;
 mod parse;
 
 pub use action::{Action, Note, NoteKind};
+pub use fields::Fields;
 pub use line::{Event, Line, LineCause, LineFault};
 pub use log::{append_action, print_action};
 pub use parse::{one_value, parse_line};

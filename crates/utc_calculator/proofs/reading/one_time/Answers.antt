@@ -1,0 +1,10 @@
+use Rattle.std.proofs.Common.{[]}
+use Rattle.std.proofs.lemmas.Result.{err_from_is_err_and}
+use Rattle.utc_calculator.specs.Operations.{Time}
+use Rattle.utc_calculator.proofs.Operands.{behind}
+use Rattle.utc_calculator.proofs.reading.one_time.Goals as goal
+
+pub returns-in_err-end-clause-err : goal.returns-in_err-end-clause-err
+returns-in_err-end-clause-err c =
+    let p = err_from_is_err_and c.from_residual-in_err-end.result c.from_residual-in_err-end.ensures.1 in
+    rw (p.1, p.2) (behind (Time c.in_ok-a.a) [] c.args.fields c.time.new.fields c.in_err-end.field-0.0 c.in_ok-a.ensures.ok c.in_err-end.ensures.err)

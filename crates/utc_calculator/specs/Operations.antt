@@ -1,0 +1,154 @@
+-- The lines that the calculator reads: an operation's word and then its operands. Our own choice, after C310's routines.
+use Rattle.std.specs.Prelude.{◌≡◌, ◌≢◌, ◌⊎◌, ℕ, ◌==◌, ◌||◌, Bool, not, List, [], ◌∷◌, map, codes, get_or, slice_index, length, ℤ, FitsSigned, Result, Ok, Err, if◌then◌else◌}
+use Rattle.std.specs.Int.{w16, w32}
+use Rattle.std.specs.Fmt.{signed_decimal}
+use Rattle.hex.specs.Hex.{decode_sized}
+use Rattle.utc_value.specs.declared.BytesFault.{BytesFault}
+use Rattle.utc_value.specs.declared.BytesFault.TheVariants as bytes
+use Rattle.utc_value.specs.Stamp.{Stamp}
+use Rattle.utc_value.specs.Octets.{octets_of, version_in, tdf_in, IsVersion, IsTdfOfVersion}
+use Rattle.utc_text.specs.declared.fault.TextFault.{TextFault}
+use Rattle.utc_text.specs.Texts.{absolute_of, relative_of}
+use Rattle.dts_capture.specs.Fields.{fields_of}
+use Rattle.utc_calculator.specs.declared.cause.UtcCause.{UtcCause}
+use Rattle.utc_calculator.specs.declared.cause.UtcCause.TheVariants as cause
+use Rattle.utc_calculator.specs.declared.operation.Operation.{Operation}
+use Rattle.utc_calculator.specs.declared.operation.Operation.TheVariants as op
+
+-- an operand: a timestamp, a number of 32 bits, a number of minutes of 16 bits, or sixteen octets
+pub data Operand : Type 0 where
+  Time : Stamp → Operand
+  Number : ℤ → Operand
+  Minutes : ℤ → Operand
+  Octets : List ℕ → Operand
+
+pub data OperandKind : Type 0 where
+  Times : OperandKind
+  Numbers : OperandKind
+  MinutesKind : OperandKind
+  OctetsKind : OperandKind
+
+abbrev pub kind_of : Operand → OperandKind
+kind_of (Time s) = Times
+kind_of (Number k) = Numbers
+kind_of (Minutes t) = MinutesKind
+kind_of (Octets octets) = OctetsKind
+
+-- an operation's word
+abbrev pub word_of : Operation → List ℕ
+word_of (op.Add a b) = codes "add"
+word_of (op.Sub a b) = codes "sub"
+word_of (op.Abs a) = codes "abs"
+word_of (op.Mul a k) = codes "mul"
+word_of (op.Span a b) = codes "span"
+word_of (op.Bound a b) = codes "bound"
+word_of (op.Tdf a t) = codes "tdf"
+word_of (op.Interval a b) = codes "interval"
+word_of (op.Mid a b) = codes "mid"
+word_of (op.Point a) = codes "point"
+word_of (op.Bytes a) = codes "bytes"
+word_of (op.Text a) = codes "text"
+
+-- an operation's operands in their order
+abbrev pub operands_of : Operation → List Operand
+operands_of (op.Add a b) = Time a ∷ Time b ∷ []
+operands_of (op.Sub a b) = Time a ∷ Time b ∷ []
+operands_of (op.Abs a) = Time a ∷ []
+operands_of (op.Mul a k) = Time a ∷ Number k ∷ []
+operands_of (op.Span a b) = Time a ∷ Time b ∷ []
+operands_of (op.Bound a b) = Time a ∷ Time b ∷ []
+operands_of (op.Tdf a t) = Time a ∷ Minutes t ∷ []
+operands_of (op.Interval a b) = Time a ∷ Time b ∷ []
+operands_of (op.Mid a b) = Time a ∷ Time b ∷ []
+operands_of (op.Point a) = Time a ∷ []
+operands_of (op.Bytes a) = Time a ∷ []
+operands_of (op.Text a) = Octets (octets_of a) ∷ []
+
+-- a text that is no time is told of as a relative one where it begins with `-`, or its fifth octet is not `-`
+abbrev pub is_relative_form : List ℕ → Bool
+is_relative_form text = (get_or text 0 0 == 45) || not (get_or text 4 0 == 45)
+
+-- the first of two readings that is right, or the fault of the second where the text is of its form, and else that of the first
+abbrev pub either_read : Bool → Result Stamp TextFault → Result Stamp TextFault → Result Stamp TextFault
+either_read second (Ok s) r = Ok s
+either_read second (Err e) (Ok s) = Ok s
+either_read second (Err e) (Err d) = if second then Err d else Err e
+
+-- a time is read as an absolute text, and else as a relative one
+abbrev pub time_of : List ℕ → Result Stamp TextFault
+time_of text = either_read (is_relative_form text) (absolute_of text) (relative_of text)
+
+-- a field is right as an operand: a number is in decimal without leading zeros, and octets are hex digits of either case
+abbrev pub Reads : List ℕ → Operand → Type 0
+Reads field (Time s) = time_of field ≡ Ok s
+Reads field (Number k) = (field ≡ signed_decimal k) × FitsSigned w32 k
+Reads field (Minutes t) = (field ≡ signed_decimal t) × FitsSigned w16 t
+Reads field (Octets octets) = decode_sized field 16 ≡ Ok octets
+
+-- the fields are right as the operands, one each
+abbrev pub ReadEach : List (List ℕ) → List Operand → Type 0
+ReadEach [] [] = Unit {0}
+ReadEach [] (x ∷ xs) = ⊥
+ReadEach (field ∷ fields) [] = ⊥
+ReadEach (field ∷ fields) (x ∷ xs) = Reads field x × ReadEach fields xs
+
+-- the line asks for the operation
+abbrev pub Spells : List ℕ → Operation → Type 0
+Spells line o = (fields : List (List ℕ)) × (fields_of line ≡ word_of o ∷ fields) × ReadEach fields (operands_of o)
+
+-- why a field with octets is not right as an operand of that kind
+abbrev pub IsWrong : OperandKind → List ℕ → UtcCause → Type 0
+IsWrong Times field c = (fault : TextFault) × (time_of field ≡ Err fault) × (c ≡ cause.Text fault)
+IsWrong Numbers field c = ((k : ℤ) → Reads field (Number k) → ⊥) × (c ≡ cause.Number)
+IsWrong MinutesKind field c = ((t : ℤ) → Reads field (Minutes t) → ⊥) × (c ≡ cause.Number)
+IsWrong OctetsKind field c = ((octets : List ℕ) → Reads field (Octets octets) → ⊥) × (c ≡ cause.Hex)
+
+-- Why the next of the fields is not right as an operand of that kind. An empty field is missing, wherever it stands.
+abbrev pub IsNextWrong : OperandKind → List (List ℕ) → UtcCause → Type 0
+IsNextWrong kind [] c = c ≡ cause.Missing
+IsNextWrong kind ([] ∷ fields) c = c ≡ cause.Missing
+IsNextWrong kind ((octet ∷ octets) ∷ fields) c = IsWrong kind (octet ∷ octets) c
+
+-- why fields are left over
+abbrev pub IsLeftOver : List (List ℕ) → UtcCause → Type 0
+IsLeftOver [] c = ⊥
+IsLeftOver ([] ∷ fields) c = c ≡ cause.Missing
+IsLeftOver ((octet ∷ octets) ∷ fields) c = c ≡ cause.Extra
+
+-- the first of the fields is right as the operand
+abbrev pub HasOperand : List (List ℕ) → Operand → List (List ℕ) → Type 0
+HasOperand fields x rest = (field : List ℕ) × (fields ≡ field ∷ rest) × Reads field x
+
+-- why fields are not right as operands of those kinds, one each in order: the cause of the first that is not
+abbrev pub IsFirstWrong : List OperandKind → List (List ℕ) → UtcCause → Type 0
+IsFirstWrong [] fields c = IsLeftOver fields c
+IsFirstWrong (kind ∷ kinds) fields c = IsNextWrong kind fields c ⊎ ((x : Operand) × (rest : List (List ℕ)) × (kind_of x ≡ kind) × HasOperand fields x rest × IsFirstWrong kinds rest c)
+
+-- why sixteen octets are no timestamp: first the version, then the time differential factor
+abbrev pub RefusesOctets : List ℕ → BytesFault → Type 0
+RefusesOctets octets (bytes.Version found) = (found ≡ version_in octets) × (¬ IsVersion found)
+RefusesOctets octets (bytes.Tdf found) = (found ≡ tdf_in octets) × IsVersion (version_in octets) × (¬ IsTdfOfVersion (version_in octets) found)
+
+-- no operation has the word
+abbrev pub IsUnknown : List ℕ → Type 0
+IsUnknown word = (o : Operation) → word_of o ≢ word
+
+-- the fields behind an operation's word are not right as its operands
+abbrev pub HasWrongOperand : List ℕ → List (List ℕ) → UtcCause → Type 0
+HasWrongOperand word fields c = (o : Operation) × (word_of o ≡ word) × IsFirstWrong (map kind_of (operands_of o)) fields c
+
+-- the octets behind the word `text` are no timestamp
+abbrev pub HasWrongOctets : List ℕ → List (List ℕ) → UtcCause → Type 0
+HasWrongOctets word fields c = (octets : List ℕ) × (fault : BytesFault) × (word ≡ codes "text") × ReadEach fields (Octets octets ∷ []) × RefusesOctets octets fault × (c ≡ cause.Bytes fault)
+
+-- why a word and the fields behind it ask for no operation
+abbrev pub RefusesFields : List ℕ → List (List ℕ) → UtcCause → Type 0
+RefusesFields word fields c = (IsUnknown word × (c ≡ cause.Word)) ⊎ (HasWrongOperand word fields c ⊎ HasWrongOctets word fields c)
+
+-- why a line asks for no operation
+abbrev pub RefusesReading : List ℕ → UtcCause → Type 0
+RefusesReading line c = (word : List ℕ) × (fields : List (List ℕ)) × (fields_of line ≡ word ∷ fields) × RefusesFields word fields c
+
+-- neither a plus, nor a zero before other octets, nor a zero behind a minus stands first
+abbrev pub IsPlainNumber : List ℕ → Type 0
+IsPlainNumber field = (slice_index field 0 ≢ 43) × (slice_index field 0 ≡ 48 → length field ≡ 1) × (slice_index field 0 ≡ 45 → slice_index field 1 ≢ 48)

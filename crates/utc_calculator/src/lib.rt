@@ -1,0 +1,15 @@
+//! A calculator of timestamps: a line asks for an operation on operands, and is answered by a line. Our own
+//! choice of texts, after C310's routines.
+#![tactic(auto)]
+
+mod answering;
+mod cause;
+mod computing;
+mod operation;
+mod reading;
+
+pub use answering::{AnswerFault, answer};
+pub use cause::UtcCause;
+pub use operation::{Operation, Outcome};
+pub use computing::compute;
+pub use reading::parse;

@@ -1,0 +1,212 @@
+//! Reads the lines of the calculator.
+
+ghost use Rattle.std.specs.Prelude.{◌≡◌, ◌≢◌, ◌⊎◌, List, ℕ, [], ◌∷◌, ℤ, FitsSigned, IfOk, IfErr, MatchOption, MatchResult, IsTrue, ◌↔◌, codes};
+ghost use Rattle.std.specs.Int.{w16, w32};
+ghost use Rattle.std.specs.Fmt.{signed_decimal};
+ghost use Rattle.hex.specs.Hex.{decode_sized};
+ghost use Rattle.utc_value.specs.Octets.{octets_of};
+ghost use Rattle.dts_capture.specs.Fields.{fields_of};
+ghost use Rattle.utc_calculator.specs.Operations.{Time, Number, Minutes, Octets, Times, Numbers, MinutesKind, OctetsKind, Reads, ReadEach, Spells, IsNextWrong, IsLeftOver, IsFirstWrong, HasOperand, HasWrongOctets, RefusesFields, RefusesReading, operands_of, IsPlainNumber, is_relative_form, time_of, word_of};
+
+use crate::{Operation, UtcCause};
+use dts_capture::Fields;
+use hex::FromHex;
+use utc_text::{TextFault, parse_abs, parse_rel};
+use utc_value::Utc;
+
+/// The operation that a line asks for. The cause is that of the first field that is not right, from left to
+/// right; octets that are no timestamp come last.
+pub fn parse(line: &[u8]) -> Result<Operation, UtcCause>
+    ensures ok { IfOk result (Spells line.now) }
+    ensures err { IfErr result (RefusesReading line.now) }
+{
+    let mut fields = Fields::new(line);
+    match fields.next() {
+        Some(word) => after_word(word, fields),
+        None => Err(UtcCause::Word),
+    }
+}
+
+// Takes the operands of the operation that has this word.
+fn after_word(word: &[u8], fields: Fields) -> Result<Operation, UtcCause>
+    ensures ok { IfOk result (λ o. (word.now ≡ word_of o) × ReadEach fields.entry (operands_of o)) }
+    ensures err { IfErr result (RefusesFields word.now fields.entry) }
+{
+    if word == b"add".as_slice() {
+        two_times(fields).map(|(a, b)| Operation::Add(a, b))
+    } else if word == b"sub".as_slice() {
+        two_times(fields).map(|(a, b)| Operation::Sub(a, b))
+    } else if word == b"abs".as_slice() {
+        one_time(fields).map(Operation::Abs)
+    } else if word == b"mul".as_slice() {
+        time_and_number(fields).map(|(a, k)| Operation::Mul(a, k))
+    } else if word == b"span".as_slice() {
+        two_times(fields).map(|(a, b)| Operation::Span(a, b))
+    } else if word == b"bound".as_slice() {
+        two_times(fields).map(|(a, b)| Operation::Bound(a, b))
+    } else if word == b"tdf".as_slice() {
+        time_and_minutes(fields).map(|(a, t)| Operation::Tdf(a, t))
+    } else if word == b"interval".as_slice() {
+        two_times(fields).map(|(a, b)| Operation::Interval(a, b))
+    } else if word == b"mid".as_slice() {
+        two_times(fields).map(|(a, b)| Operation::Mid(a, b))
+    } else if word == b"point".as_slice() {
+        one_time(fields).map(Operation::Point)
+    } else if word == b"bytes".as_slice() {
+        one_time(fields).map(Operation::Bytes)
+    } else if word == b"text".as_slice() {
+        octets_of_time(fields).map(Operation::Text)
+    } else {
+        Err(UtcCause::Word)
+    }
+}
+
+// The next field, where it has octets.
+fn next_field<'a>(fields: &mut Fields<'a>) -> Result<&'a [u8], UtcCause>
+    ensures ok { IfOk result (λ field. (fields.old ≡ field.now ∷ fields.new) × (field.now ≢ [])) }
+    ensures err { IfErr result (λ c. (c ≡ UtcCause.Missing) × ((fields.old ≡ []) ⊎ (fields.old ≡ [] ∷ fields.new))) }
+{
+    match fields.next() {
+        None | Some([]) => Err(UtcCause::Missing),
+        Some(field) => Ok(field),
+    }
+}
+
+// No field is left over.
+fn end(fields: &mut Fields) -> Result<(), UtcCause>
+    ensures ok { IfOk result (λ _. fields.old ≡ []) }
+    ensures err { IfErr result (IsLeftOver fields.old) }
+{
+    match fields.next() {
+        None => Ok(()),
+        Some([]) => Err(UtcCause::Missing),
+        Some(_) => Err(UtcCause::Extra),
+    }
+}
+
+// A text that is no time is told of as a relative one.
+fn is_relative_form(text: &[u8]) -> bool
+    ensures { result ≡ is_relative_form text.now }
+{
+    !matches!(text, [first, _, _, _, b'-', ..] if *first != b'-')
+}
+
+// The time that a text is.
+fn time_of(text: &[u8]) -> Result<Utc, TextFault>
+    ensures { result ≡ time_of text.now }
+{
+    match (parse_abs(text), parse_rel(text)) {
+        (Ok(time), _) | (Err(_), Ok(time)) => Ok(time),
+        (Err(_), Err(fault)) if is_relative_form(text) => Err(fault),
+        (Err(fault), Err(_)) => Err(fault),
+    }
+}
+
+// Takes the next field, where it is a time.
+fn time(fields: &mut Fields) -> Result<Utc, UtcCause>
+    ensures ok { IfOk result (λ u. HasOperand fields.old (Time u) fields.new) }
+    ensures err { IfErr result (IsNextWrong Times fields.old) }
+{
+    time_of(next_field(fields)?).map_err(UtcCause::Text)
+}
+
+// A number has neither a plus nor a leading zero, and 0 no minus.
+fn is_plain(field: &[u8]) -> bool
+    ensures { IsTrue result ↔ IsPlainNumber field.now }
+{
+    !matches!(field, [b'+', ..] | [b'0', _, ..] | [b'-', b'0', ..])
+}
+
+// The number of 32 bits that a field is, in decimal without leading zeros.
+fn number_of(field: &[u8]) -> Option<i32>
+    ensures { MatchOption result ((k : ℤ) → Reads field.now (Number k) → ⊥) (λ k. field.now ≡ signed_decimal k) }
+{
+    if !is_plain(field) {
+        return None;
+    }
+    str::from_utf8(field).ok()?.parse().ok()
+}
+
+// The number of minutes of 16 bits that a field is.
+fn minutes_of(field: &[u8]) -> Option<i16>
+    ensures { MatchOption result ((t : ℤ) → Reads field.now (Minutes t) → ⊥) (λ t. field.now ≡ signed_decimal t) }
+{
+    i16::try_from(number_of(field)?).ok()
+}
+
+// Takes the next field, where it is a number of 32 bits.
+fn number(fields: &mut Fields) -> Result<i32, UtcCause>
+    ensures ok { IfOk result (λ k. HasOperand fields.old (Number k) fields.new) }
+    ensures err { IfErr result (IsNextWrong Numbers fields.old) }
+{
+    number_of(next_field(fields)?).ok_or(UtcCause::Number)
+}
+
+// Takes the next field, where it is a number of minutes.
+fn minutes(fields: &mut Fields) -> Result<i16, UtcCause>
+    ensures ok { IfOk result (λ t. HasOperand fields.old (Minutes t) fields.new) }
+    ensures err { IfErr result (IsNextWrong MinutesKind fields.old) }
+{
+    minutes_of(next_field(fields)?).ok_or(UtcCause::Number)
+}
+
+// Takes the next field, where it is 32 hex digits.
+fn octets(fields: &mut Fields) -> Result<[u8; 16], UtcCause>
+    ensures ok { IfOk result (λ octets. HasOperand fields.old (Octets octets) fields.new) }
+    ensures err { IfErr result (IsNextWrong OctetsKind fields.old) }
+{
+    <[u8; 16] as FromHex>::from_hex(next_field(fields)?).map_err(|_| UtcCause::Hex)
+}
+
+// A time, and no more.
+fn one_time(mut fields: Fields) -> Result<Utc, UtcCause>
+    ensures ok { IfOk result (λ a. ReadEach fields.entry (Time a ∷ [])) }
+    ensures err { IfErr result (IsFirstWrong (Times ∷ []) fields.entry) }
+{
+    let a = time(&mut fields)?;
+    end(&mut fields)?;
+    Ok(a)
+}
+
+// Two times, and no more.
+fn two_times(mut fields: Fields) -> Result<(Utc, Utc), UtcCause>
+    ensures ok { IfOk result (λ both. ReadEach fields.entry (Time both.0 ∷ Time both.1 ∷ [])) }
+    ensures err { IfErr result (IsFirstWrong (Times ∷ Times ∷ []) fields.entry) }
+{
+    let a = time(&mut fields)?;
+    let b = time(&mut fields)?;
+    end(&mut fields)?;
+    Ok((a, b))
+}
+
+// A time and a number, and no more.
+fn time_and_number(mut fields: Fields) -> Result<(Utc, i32), UtcCause>
+    ensures ok { IfOk result (λ both. ReadEach fields.entry (Time both.0 ∷ Number both.1 ∷ [])) }
+    ensures err { IfErr result (IsFirstWrong (Times ∷ Numbers ∷ []) fields.entry) }
+{
+    let a = time(&mut fields)?;
+    let k = number(&mut fields)?;
+    end(&mut fields)?;
+    Ok((a, k))
+}
+
+// A time and a number of minutes, and no more.
+fn time_and_minutes(mut fields: Fields) -> Result<(Utc, i16), UtcCause>
+    ensures ok { IfOk result (λ both. ReadEach fields.entry (Time both.0 ∷ Minutes both.1 ∷ [])) }
+    ensures err { IfErr result (IsFirstWrong (Times ∷ MinutesKind ∷ []) fields.entry) }
+{
+    let a = time(&mut fields)?;
+    let t = minutes(&mut fields)?;
+    end(&mut fields)?;
+    Ok((a, t))
+}
+
+// Sixteen octets that are a timestamp, and no more.
+fn octets_of_time(mut fields: Fields) -> Result<Utc, UtcCause>
+    ensures ok { IfOk result (λ a. ReadEach fields.entry (Octets (octets_of a) ∷ [])) }
+    ensures err { IfErr result (λ c. IsFirstWrong (OctetsKind ∷ []) fields.entry c ⊎ HasWrongOctets (codes "text") fields.entry c) }
+{
+    let octets = octets(&mut fields)?;
+    end(&mut fields)?;
+    Utc::from_bytes(octets).map_err(UtcCause::Bytes)
+}
