@@ -1,2 +1,4 @@
 pub mod Numbers
 pub mod Operands
+pub mod AnswerFacts
+pub mod Stepping

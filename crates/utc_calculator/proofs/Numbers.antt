@@ -4,12 +4,12 @@ use Rattle.std.specs.Prelude.{decimal}
 use lib.Signed.{mag}
 use Rattle.std.specs.Int.{w16, w32}
 use Rattle.std.specs.Fmt.{signed_decimal}
-use Rattle.std.specs.Result.{result_ok}
+use Rattle.std.specs.Result.{result_ok, OkIff}
 use Rattle.std.specs.Str.Parse.{ParsesSigned, AllDigits, digits_value}
 use Rattle.std.proofs.lemmas.Bool.{eqb-true, eqb-false}
 use Rattle.std.proofs.lemmas.Str.Parse.{IsNumeralModel, numerals_by_value, tells_digits, parse_signed_plain, parse_signed_minus}
-use Rattle.std.proofs.lemmas.Fmt.{decimal_digit, first_decimal, decimal-digits_value, parse-signed_decimal, IsAscii-signed}
-use Rattle.std.proofs.lemmas.Result.{OkIff-at_ok}
+use Rattle.std.proofs.lemmas.Fmt.{decimal_digit, first_decimal, decimal-digits_value, parse-signed_decimal, signed_decimal_injective, IsAscii-signed}
+use Rattle.std.proofs.lemmas.Result.{OkIff-at_ok, Ok-from_Ok_iff}
 use Rattle.std.proofs.lemmas.Str.{IsUtf8-from_ascii}
 use Rattle.utc_calculator.specs.Operations.{IsPlainNumber}
 
@@ -56,6 +56,10 @@ pub plain_read : {E : Type 0} (field : List ℕ) (r : Result ℤ E) (k : ℤ) �
 plain_read {E} [] r k parses plain is = read_plain {E = E} [] r k parses plain (eqb-false 0 45 refl) is
 plain_read {E} (first ∷ ds) r k parses plain is = read_at {E = E} first ds r k (eqb first 45) refl parses plain is
 
+-- what is read fits
+read_fits : {E : Type 0} (field : List ℕ) (r : Result ℤ E) (k : ℤ) → ParsesSigned w32 10 field r → r ≡ Ok k → FitsSigned w32 k
+read_fits field r k parses is = let p = OkIff-at_ok r _ _ k parses is in rw p.1 p.0.1
+
 -- what a failed `ok` says of the result that it was called on
 pub ok_missing : {T E A : Type 0} (r : Result T E) (o : Option T) (P : T → Type 0) (Q : E → Type 0) → o ≡ None → o ≡ result_ok r → MatchResult r P Q → ((y : E) → Q y → A) → A
 ok_missing (Ok x) o P Q none is h then = cc
@@ -71,6 +75,20 @@ small (pos n) h = omega (arith, h.sfits)
 small (negsuc n) h = omega (arith, h.sfits)
 
 -- the number that a plain field is
-pub number_read : {E : Type 0} (field text : List ℕ) (r : Result ℤ E) (o : Option ℤ) → text ≡ field → IsPlainNumber field → ParsesSigned w32 10 text r → o ≡ result_ok r → MatchOption o ((k : ℤ) → (field ≡ signed_decimal k) × FitsSigned w32 k → ⊥) (λ k. field ≡ signed_decimal k)
-number_read {E} field text (Ok k) o same plain parses is = rw is (plain_read {E = E} field (Ok k) k (rw same at parses) plain refl)
+pub number_read : {E : Type 0} (field text : List ℕ) (r : Result ℤ E) (o : Option ℤ) → text ≡ field → IsPlainNumber field → ParsesSigned w32 10 text r → o ≡ result_ok r → MatchOption o ((k : ℤ) → (field ≡ signed_decimal k) × FitsSigned w32 k → ⊥) (λ k. (field ≡ signed_decimal k) × FitsSigned w32 k)
+number_read {E} field text (Ok k) o same plain parses is = rw is (let p = rw same at parses in (plain_read {E = E} field (Ok k) k p plain refl, read_fits {E = E} field (Ok k) k p refl))
 number_read {E} field text (Err y) o same plain parses is = rw is (λ k h. let bad = parse-signed_decimal {E = E} w32 k text (Err y) h.1 (small k h.1) (same ∙ h.0) parses in cc)
+
+small_minutes : (t : ℤ) → FitsSigned w16 t → mag t < 2 ^ 63
+small_minutes (pos n) h = omega (arith, h.sfits)
+small_minutes (negsuc n) h = omega (arith, h.sfits)
+
+-- and the minutes, where they fit
+pub minutes_read : {E : Type 0} (field : List ℕ) (k z : ℤ) (r : Result ℤ E) (o : Option ℤ) → (field ≡ signed_decimal k) × FitsSigned w32 k → z ≡ k → OkIff r (FitsSigned w16 z) z → o ≡ result_ok r
+    → MatchOption o ((t : ℤ) → (field ≡ signed_decimal t) × FitsSigned w16 t → ⊥) (λ t. (field ≡ signed_decimal t) × FitsSigned w16 t)
+minutes_read {E} field k z (Ok t) o written same fits is = rw is (let r : Result ℤ E = Ok t in let p = OkIff-at_ok r (FitsSigned w16 z) z t fits refl in rw (p.1, same) (written.0, rw same at p.0))
+minutes_read {E} field k z (Err y) o written same fits is = rw is (λ t h.
+    let one : k ≡ t = signed_decimal_injective k t (small k written.1) (small_minutes t h.1) (sym written.0 ∙ h.0) in
+    let r : Result ℤ E = Err y in
+    let bad = Ok-from_Ok_iff r (FitsSigned w16 z) z fits (rw (same ∙ one) h.1) in
+    cc)

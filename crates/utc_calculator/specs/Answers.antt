@@ -6,6 +6,8 @@ use Rattle.utc_calculator.specs.declared.cause.UtcCause.{UtcCause}
 use Rattle.utc_calculator.specs.declared.cause.UtcCause.TheVariants as cause
 use Rattle.utc_calculator.specs.declared.answering.AnswerFault.{AnswerFault}
 use Rattle.utc_calculator.specs.declared.answering.AnswerFault.TheVariants as fault
+use Rattle.utc_calculator.specs.declared.calculating.Stop.{Stop}
+use Rattle.utc_calculator.specs.declared.calculating.Stop.TheVariants as stop
 use Rattle.utc_calculator.specs.declared.computing.Unwritten.{Unwritten}
 use Rattle.utc_calculator.specs.declared.computing.Unwritten.TheVariants as unwritten
 use Rattle.utc_calculator.specs.declared.operation.Operation.{Operation}
@@ -64,6 +66,13 @@ abbrev pub RefusesLine : ℕ → List ℕ → UtcCause → Type 0
 RefusesLine n line c = ((2 ^ 32 ≤ n) × (c ≡ cause.Lines))
     ⊎ (((n < 2 ^ 32) × (16384 < length line) × (c ≡ cause.Long))
     ⊎ ((n < 2 ^ 32) × (length line ≤ 16384) × Refuses line c))
+
+-- the line of that number is refused with its cause, or memory is missing
+abbrev pub IsStopAt : ℕ → List ℕ → Stop → Type 0
+IsStopAt n line (stop.Refused m c) = (m ≡ n) × RefusesLine n line c
+IsStopAt n line stop.Read = ⊥
+IsStopAt n line stop.Write = ⊥
+IsStopAt n line stop.NoMemory = Unit {0}
 
 -- the answers to lines in their order, each with a line feed
 abbrev pub AnswerEach : List (List ℕ) → List ℕ → Type 0

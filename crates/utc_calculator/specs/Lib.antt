@@ -1,3 +1,5 @@
 pub mod Operations
 pub mod Results
 pub mod Answers
+pub mod Output
+pub mod Progress

@@ -3,13 +3,15 @@
 #![tactic(auto)]
 
 mod answering;
+mod calculating;
 mod cause;
 mod computing;
 mod operation;
 mod reading;
 
 pub use answering::{AnswerFault, answer};
+pub use calculating::{Stop, calculate};
 pub use cause::UtcCause;
-pub use operation::{Operation, Outcome};
 pub use computing::compute;
+pub use operation::{Operation, Outcome};
 pub use reading::parse;

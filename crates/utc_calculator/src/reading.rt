@@ -119,7 +119,7 @@ fn is_plain(field: &[u8]) -> bool
 
 // The number of 32 bits that a field is, in decimal without leading zeros.
 fn number_of(field: &[u8]) -> Option<i32>
-    ensures { MatchOption result ((k : ℤ) → Reads field.now (Number k) → ⊥) (λ k. field.now ≡ signed_decimal k) }
+    ensures { MatchOption result ((k : ℤ) → Reads field.now (Number k) → ⊥) (λ k. Reads field.now (Number k)) }
 {
     if !is_plain(field) {
         return None;
@@ -129,7 +129,7 @@ fn number_of(field: &[u8]) -> Option<i32>
 
 // The number of minutes of 16 bits that a field is.
 fn minutes_of(field: &[u8]) -> Option<i16>
-    ensures { MatchOption result ((t : ℤ) → Reads field.now (Minutes t) → ⊥) (λ t. field.now ≡ signed_decimal t) }
+    ensures { MatchOption result ((t : ℤ) → Reads field.now (Minutes t) → ⊥) (λ t. Reads field.now (Minutes t)) }
 {
     i16::try_from(number_of(field)?).ok()
 }
