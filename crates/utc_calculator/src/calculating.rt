@@ -99,30 +99,28 @@ fn answer_next<I: Source, O: Sink>(
 }
 
 // The answer to the line of that number.
-fn answer_at(alloc: Global, number: u64, line: &[u8]) -> Result<Vec<u8>, Stop>
+pub(crate) fn answer_at(alloc: Global, number: u64, line: &[u8]) -> Result<Vec<u8>, Stop>
     requires { number ≤ 2 ^ 32 }
     ensures few { OnOk result (number < 2 ^ 32) }
     ensures answers { IfOk result (λ octets. (text : List ℕ) × IsAnswered line.now text × (octets.items ≡ text ++ 10 ∷ [])) }
     ensures refused { IfErr result (IsStopAt number line.now) }
 {
     if number > MAX_LINES {
-        return Err(Stop::Refused {
-            line: number,
-            cause: UtcCause::Lines,
-        });
+        return Err(refused(number, UtcCause::Lines));
     }
     if line.len() > MAX_LINE {
-        return Err(Stop::Refused {
-            line: number,
-            cause: UtcCause::Long,
-        });
+        return Err(refused(number, UtcCause::Long));
     }
     match answer(alloc, line) {
         Ok(octets) => Ok(octets),
-        Err(AnswerFault::Refused(cause)) => Err(Stop::Refused {
-            line: number,
-            cause,
-        }),
+        Err(AnswerFault::Refused(cause)) => Err(refused(number, cause)),
         Err(AnswerFault::NoMemory) => Err(Stop::NoMemory),
     }
+}
+
+// The refusal of the line of that number.
+fn refused(line: u64, cause: UtcCause) -> Stop
+    ensures { result ≡ Stop.Refused line cause }
+{
+    Stop::Refused { line, cause }
 }

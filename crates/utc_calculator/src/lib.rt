@@ -15,3 +15,6 @@ pub use cause::UtcCause;
 pub use computing::compute;
 pub use operation::{Operation, Outcome};
 pub use reading::parse;
+
+#[cfg(test)]
+mod tests;

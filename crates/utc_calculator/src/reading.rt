@@ -67,7 +67,7 @@ fn next_field<'a>(fields: &mut Fields<'a>) -> Result<&'a [u8], UtcCause>
     ensures err { IfErr result (λ c. (c ≡ UtcCause.Missing) × ((fields.old ≡ []) ⊎ (fields.old ≡ [] ∷ fields.new))) }
 {
     match fields.next() {
-        None | Some([]) => Err(UtcCause::Missing),
+        Some([]) | None => Err(UtcCause::Missing),
         Some(field) => Ok(field),
     }
 }
