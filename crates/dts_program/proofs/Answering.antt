@@ -63,6 +63,7 @@ says_safe rates texts (status.CaptureRefused line column why) text (capture, ref
     refused_text rates texts (status.CaptureRefused line column why) text line capture refused is (λ history e. e)
 says_safe rates texts (status.ReadFault which) text (name, part) = part_text rates (status.ReadFault which) texts text part (λ history begins. begins)
 says_safe rates texts (status.WriteFault which) text (name, part) = part_text rates (status.WriteFault which) texts text part (λ history begins. begins)
+says_safe rates texts (status.UtcRefused line why) text replays = absurd replays
 says_safe rates texts status.NoMemory text part = part_text rates status.NoMemory texts text part (λ history begins. begins)
 
 pub safely : (rates : Rates) (texts : List (List ℕ)) (s : Status) (before now : Option (List ℕ)) → HasReplayed rates texts s before now → WroteSafely rates texts s before now
@@ -85,4 +86,5 @@ complete rates texts status.Usage text capture replays begins no_read no_write =
 complete rates texts (status.CaptureRefused line column why) text capture replays begins no_read no_write = absurd (never_refused texts line replays.0 capture replays.1 begins)
 complete rates texts (status.ReadFault which) text capture replays begins no_read no_write = absurd (no_read which refl)
 complete rates texts (status.WriteFault which) text capture replays begins no_read no_write = absurd (no_write which refl)
+complete rates texts (status.UtcRefused line why) text capture replays begins no_read no_write = absurd replays
 complete rates texts status.NoMemory text capture replays begins no_read no_write = inr refl

@@ -90,6 +90,7 @@ refused_more texts more n capture refused = record {
 stops_replays : (rates : Rates) (texts more : List (List ℕ)) (s : Status) (text : List ℕ) → Stops rates texts s text → Replays rates (texts ++ more) s text
 stops_replays rates texts more status.Done text stops = absurd stops
 stops_replays rates texts more status.Usage text stops = absurd stops
+stops_replays rates texts more (status.UtcRefused line why) text stops = absurd stops
 stops_replays rates texts more (status.CaptureRefused n column why) text (capture, refused, fault, is) = (capture, inl (refused_more texts more n capture refused), fault, is)
 stops_replays rates texts more (status.ReadFault which) text (is, part) = (is, part_more rates texts more text part)
 stops_replays rates texts more (status.WriteFault which) text (is, part) = (is, part_more rates texts more text part)

@@ -40,6 +40,7 @@ Stops rates texts (status.CaptureRefused line column why) text =
 Stops rates texts (status.ReadFault which) text = (which ≡ source.Input) × IsPart rates texts text
 Stops rates texts (status.WriteFault which) text = (which ≡ sink.Output) × IsPart rates texts text
 Stops rates texts status.NoMemory text = IsPart rates texts text
+Stops rates texts (status.UtcRefused line why) text = ⊥
 
 -- What `replay` wrote for these lines where it answers this status: the log of the whole capture where it is done,
 -- the log of the lines before the first refused one where it refuses that line, and else a beginning of a log.
@@ -51,6 +52,7 @@ Replays rates texts (status.CaptureRefused line column why) text =
 Replays rates texts (status.ReadFault which) text = (which ≡ source.Input) × IsPart rates texts text
 Replays rates texts (status.WriteFault which) text = (which ≡ sink.Output) × IsPart rates texts text
 Replays rates texts status.NoMemory text = IsPart rates texts text
+Replays rates texts (status.UtcRefused line why) text = ⊥
 
 -- a sink that told what it held tells that, and then the text
 abbrev pub Wrote : Option (List ℕ) → Option (List ℕ) → List ℕ → Type 0
@@ -64,6 +66,7 @@ IsLogAt (status.CaptureRefused line column why) text history = text ≡ log_of h
 IsLogAt (status.ReadFault which) text history = BeginsWith text (log_of history)
 IsLogAt (status.WriteFault which) text history = BeginsWith text (log_of history)
 IsLogAt status.NoMemory text history = BeginsWith text (log_of history)
+IsLogAt (status.UtcRefused line why) text history = ⊥
 
 -- The first of these lines are a capture whose history is safe, and the text is its log, or where the replay broke off the beginning of it.
 pub record IsSafeLog (rates : Rates) (texts : List (List ℕ)) (s : Status) (text : List ℕ) : Type 0 where

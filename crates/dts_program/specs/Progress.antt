@@ -1,11 +1,12 @@
 -- How far a replay has come, and what it wrote. Our own choice.
-use Rattle.std.specs.Prelude.{◌≡◌, ◌⊎◌, ℕ, ◌≤◌, List, Option, Result, MatchResult, IsErrOf}
+use Rattle.std.specs.Prelude.{◌≡◌, ◌⊎◌, ℕ, ◌≤◌, List, Option, Result, MatchResult, IfErr, IsErrOf}
 use Rattle.dts_base.specs.Causes.{Rose}
 use Rattle.dts_base.specs.Streams.{BeginsWith}
 use Rattle.slew_clock.specs.declared.rates.Rates.{Rates}
 use Rattle.dts_program.specs.Capture.{Capture}
 use Rattle.dts_program.specs.Output.{output_of, Stops, Replays, Wrote}
 use Rattle.dts_program.specs.Standing.{StandsAt}
+use Rattle.dts_program.specs.Statuses.{IsReplayStatus}
 use Rattle.dts_program.specs.declared.replay.Replay.{Replay}
 use Rattle.dts_program.specs.declared.status.Status.{Status}
 use Rattle.dts_program.specs.declared.status.Status.TheVariants as status
@@ -27,20 +28,20 @@ pub record WriteCause {T : Type 0} (before now : ℕ) (result : Result T Status)
   pub later : before ≤ now
   pub failed : (which : SinkName) → IsErrOf result (status.WriteFault which) → (which ≡ sink.Output) × Rose before now
 
--- a call that only takes lines answers no fault of a source either, and no status that is an end
+-- a call that only takes lines answers no fault of a source either, no status that is an end, and none of another command
 pub record TakeCause {T : Type 0} (before now : ℕ) (result : Result T Status) : Type 0 where
   pub later : before ≤ now
   pub failed : (which : SinkName) → IsErrOf result (status.WriteFault which) → (which ≡ sink.Output) × Rose before now
   pub no_read : (which : SourceName) → IsErrOf result (status.ReadFault which) → ⊥
   pub not_done : IsErrOf result status.Done → ⊥
-  pub not_usage : IsErrOf result status.Usage → ⊥
+  pub of_replay : IfErr result IsReplayStatus
 
 -- the count did not fall, and the call answers a fault of a source only where it is the input, whose count rose
 pub record ReadCause {T : Type 0} (before now : ℕ) (result : Result T Status) : Type 0 where
   pub later : before ≤ now
   pub failed : (which : SourceName) → IsErrOf result (status.ReadFault which) → (which ≡ source.Input) × Rose before now
   pub not_done : IsErrOf result status.Done → ⊥
-  pub not_usage : IsErrOf result status.Usage → ⊥
+  pub of_replay : IfErr result IsReplayStatus
 
 -- The replay has taken these lines, and their log was written since the sink told `before`.
 pub record Stands (rates : Rates) (texts : List (List ℕ)) (replay : Replay) (before now : Option (List ℕ)) : Type 0 where

@@ -4,6 +4,9 @@ ghost use Rattle.dts_base.specs.Causes.{Rose};
 ghost use Rattle.line_reader.specs.Lines.{lines_of};
 ghost use Rattle.line_reader.specs.Reader.{Advances};
 ghost use Rattle.dts_program.specs.Capture.{Capture, IsCapture};
+ghost use Rattle.dts_program.specs.Calculation.{HasCalculated};
+ghost use Rattle.dts_program.specs.Statuses.{IsReplayStatus, IsUtcStatus};
+ghost use Rattle.utc_calculator.specs.Output.{RefusesNone};
 ghost use Rattle.dts_program.specs.Output.{WroteSafely};
 ghost use Rattle.dts_program.specs.declared.status.SourceName.{SourceName};
 ghost use Rattle.dts_program.specs.declared.status.SinkName.{SinkName};
@@ -15,6 +18,7 @@ use dts_base::{Sink, Source};
 use line_reader::LineReader;
 use slew_clock::Rates;
 use std::alloc::Global;
+use utc_calculator::{Stop, calculate};
 
 // Goes on to the next line of the input.
 fn next_line<I: Source>(reader: &mut LineReader, input: &mut I) -> Result<bool, Status>
@@ -49,7 +53,7 @@ pub fn replay<I: Source, O: Sink>(
     // It answers a fault only where the faults of that object rose.
     ensures read_fault { (which : SourceName) → result ≡ Status.ReadFault which → (which ≡ SourceName.Input) × Rose (I.faults input.old) (I.faults input.new) }
     ensures write_fault { (which : SinkName) → result ≡ Status.WriteFault which → (which ≡ SinkName.Output) × Rose (O.faults output.old) (O.faults output.new) }
-    ensures no_usage { result ≡ Status.Usage → ⊥ }
+    ensures statuses { IsReplayStatus result }
 
     // What was written is the log of a safe history, or the beginning of one.
     ensures safe { (octets : List ℕ) → I.left input.old ≡ Some octets → WroteSafely rates (lines_of octets) result (O.written output.old) (O.written output.new) }
@@ -81,4 +85,34 @@ fn replay_lines<I: Source, O: Sink>(
         replay.take_line(&mut log, reader.line(), output)?;
     }
     replay.ended()
+}
+
+/// Answers lines that ask for operations on timestamps: reads them from the input, and writes an answer line for each
+/// to the output, as one piece, in bounded memory. It ends at the first line that is refused, or at the end of the
+/// input. Our own choice, after C310's routines.
+pub fn utc<I: Source, O: Sink>(alloc: Global, input: &mut I, output: &mut O) -> Status
+    // What the output holds afterwards is what it held before, and then the answers to the lines: to all of them, or to those before the first refused one.
+    ensures answers { (octets : List ℕ) → I.left input.old ≡ Some octets → HasCalculated (lines_of octets) result (O.written output.old) (O.written output.new) }
+    ensures read_to_end { result ≡ Status.Done → (octets : List ℕ) → I.left input.old ≡ Some octets → I.left input.new ≡ Some [] }
+
+    // A refusal has its cause: where nothing failed and no line is refused, the answer is Done, or memory was missing.
+    ensures complete { (octets : List ℕ) → I.left input.old ≡ Some octets → RefusesNone (lines_of octets) →
+        (Rose (I.faults input.old) (I.faults input.new) → ⊥) → (Rose (O.faults output.old) (O.faults output.new) → ⊥) → (result ≡ Status.Done) ⊎ (result ≡ Status.NoMemory) }
+
+    // It answers a fault only where the faults of that object rose.
+    ensures read_fault { (which : SourceName) → result ≡ Status.ReadFault which → (which ≡ SourceName.Input) × Rose (I.faults input.old) (I.faults input.new) }
+    ensures write_fault { (which : SinkName) → result ≡ Status.WriteFault which → (which ≡ SinkName.Output) × Rose (O.faults output.old) (O.faults output.new) }
+    ensures statuses { IsUtcStatus result }
+{
+    match calculate(alloc, input, output) {
+        Ok(()) => Status::Done,
+        Err(Stop::Refused { line, cause }) => Status::UtcRefused { line, cause },
+        Err(Stop::Read) => Status::ReadFault {
+            which: SourceName::Input,
+        },
+        Err(Stop::Write) => Status::WriteFault {
+            which: SinkName::Output,
+        },
+        Err(Stop::NoMemory) => Status::NoMemory,
+    }
 }

@@ -4,12 +4,15 @@ ghost use Rattle.dts_base.specs.Causes.{Rose};
 ghost use Rattle.slew_clock.specs.UsualRates.{usual_rates};
 ghost use Rattle.line_reader.specs.Lines.{lines_of};
 ghost use Rattle.dts_program.specs.Capture.{Capture, IsCapture};
+ghost use Rattle.utc_calculator.specs.Output.{RefusesNone};
+ghost use Rattle.dts_program.specs.Calculation.{HasCalculated};
+ghost use Rattle.dts_program.specs.Statuses.{IsReplayStatus, IsUtcStatus};
 ghost use Rattle.dts_program.specs.Output.{WroteSafely};
 ghost use Rattle.dts_program.specs.Progress.{HasReplayed};
 ghost use Rattle.dts_program.specs.declared.status.SourceName.{SourceName};
 ghost use Rattle.dts_program.specs.declared.status.SinkName.{SinkName};
 
-use crate::command::replay;
+use crate::command::{replay, utc};
 use crate::status::{SinkName, SourceName, Status};
 use dts_base::{Link, Oscillator, Sink, Source, Words};
 use slew_clock::Rates;
@@ -51,8 +54,8 @@ pub struct Outside<I, F, O, C, L, K, W> {
     pub serve: Vec<ServeSide<C, L, K>>,
 }
 
-/// Runs a command line, the words after the program's name, over the outside that is handed in. The one
-/// command line that is built is `replay`, at the usual rates. Our own choice.
+/// Runs a command line, the words after the program's name, over the outside that is handed in: `replay`, at
+/// the usual rates, or `utc`. Our own choice.
 pub fn run<
     R: Threads + Wait + Sync,
     I: Source,
@@ -66,7 +69,7 @@ pub fn run<
     requires four { vec_len out.old.serve ≡ 4 }
 
     // Usage comes exactly where the words are no command line, and then nothing is touched.
-    ensures usage { (result ≡ Status.Usage) ↔ (map string_bytes words.now ≡ codes "replay" ∷ [] → ⊥) }
+    ensures usage { (result ≡ Status.Usage) ↔ ((map string_bytes words.now ≡ codes "replay" ∷ [] → ⊥) × (map string_bytes words.now ≡ codes "utc" ∷ [] → ⊥)) }
     ensures untouched { result ≡ Status.Usage → out.new ≡ out.old }
 
     // Each log is exactly what the rules define: what the output holds afterwards is what it held before, and then
@@ -80,9 +83,20 @@ pub fn run<
     ensures safe { map string_bytes words.now ≡ codes "replay" ∷ [] → (octets : List ℕ) → I.left out.old.input ≡ Some octets →
         WroteSafely usual_rates (lines_of octets) result (O.written out.old.output) (O.written out.new.output) }
 
-    // A valid capture is never refused.
+    // The answers of `utc` are those that the routines define, to all lines or to those before the first refused one, and nothing else.
+    ensures answers { map string_bytes words.now ≡ codes "utc" ∷ [] → (octets : List ℕ) → I.left out.old.input ≡ Some octets →
+        HasCalculated (lines_of octets) result (O.written out.old.output) (O.written out.new.output) }
+
+    // A valid capture is never refused, and no lines of which `utc` refuses none.
     ensures complete { map string_bytes words.now ≡ codes "replay" ∷ [] → (octets : List ℕ) (capture : Capture) → I.left out.old.input ≡ Some octets → IsCapture octets capture →
         (Rose (I.faults out.old.input) (I.faults out.new.input) → ⊥) → (Rose (O.faults out.old.output) (O.faults out.new.output) → ⊥) → (result ≡ Status.Done) ⊎ (result ≡ Status.NoMemory) }
+
+    ensures utc_complete { map string_bytes words.now ≡ codes "utc" ∷ [] → (octets : List ℕ) → I.left out.old.input ≡ Some octets → RefusesNone (lines_of octets) →
+        (Rose (I.faults out.old.input) (I.faults out.new.input) → ⊥) → (Rose (O.faults out.old.output) (O.faults out.new.output) → ⊥) → (result ≡ Status.Done) ⊎ (result ≡ Status.NoMemory) }
+
+    // Each command answers its own statuses.
+    ensures replay_statuses { map string_bytes words.now ≡ codes "replay" ∷ [] → IsReplayStatus result }
+    ensures utc_statuses { map string_bytes words.now ≡ codes "utc" ∷ [] → IsUtcStatus result }
 
     // A fault is answered only where the faults of that object rose.
     ensures read_fault { (which : SourceName) → result ≡ Status.ReadFault which → (which ≡ SourceName.Input) × Rose (I.faults out.old.input) (I.faults out.new.input) }
@@ -92,6 +106,7 @@ pub fn run<
         [word] if word.as_str() == "replay" => {
             replay(alloc, Rates::usual(), &mut out.input, &mut out.output)
         }
+        [word] if word.as_str() == "utc" => utc(alloc, &mut out.input, &mut out.output),
         _ => Status::Usage,
     }
 }

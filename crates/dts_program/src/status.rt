@@ -1,5 +1,6 @@
 use dts_capture::LineCause;
 use thiserror::Error;
+use utc_calculator::UtcCause;
 
 /// The sources of the program. Our own choice.
 #[derive(Clone, Copy, Debug, PartialEq, Eq, Error)]
@@ -36,7 +37,7 @@ pub enum Status {
     #[error("done")]
     Done,
     /// The words are no command line.
-    #[error("usage: dts replay")]
+    #[error("usage: dts replay | dts utc")]
     Usage,
     /// A line of the capture is refused; the log of the earlier lines stands.
     #[error("line {line}, column {column}: {cause}")]
@@ -58,6 +59,12 @@ pub enum Status {
     /// No memory was found; what was written is the beginning of the output.
     #[error("out of memory")]
     NoMemory,
+    /// A line of the calculator is refused; the answers to the earlier lines stand.
+    #[error("line {line}: {cause}")]
+    UtcRefused {
+        line: u64,
+        cause: UtcCause,
+    },
 }
 
 impl Status {
@@ -75,6 +82,7 @@ impl Status {
             Status::ReadFault { .. } => 4,
             Status::WriteFault { .. } => 5,
             Status::NoMemory => 6,
+            Status::UtcRefused { .. } => 7,
         }
     }
 }

@@ -1,4 +1,4 @@
-use crate::command::replay;
+use crate::command::{replay, utc};
 use crate::outside::{Outside, run};
 use crate::sides;
 use crate::status::{SinkName, SourceName, Status};
@@ -6,6 +6,9 @@ use dts_base::{MemoryLink, MemoryOscillator, MemorySink, MemorySource, MemoryWor
 use dts_capture::LineCause;
 use slew_clock::Rates;
 use std::test::Fail;
+use utc_calculator::UtcCause;
+use utc_routines::UtcFault;
+use utc_text::{TextFault, TextField};
 
 // The refusal of a line.
 fn refused(line: u64) -> Status {
@@ -126,20 +129,124 @@ fn faults_are_answered_and_what_was_written_stands(rt: HostRuntime) -> Result<()
 }
 
 #[test]
-fn the_words_are_replay_alone(rt: HostRuntime) -> Result<(), Fail> {
-    for (line, status) in [
-        ("", Status::Usage),
-        ("replay", Status::Done),
-        ("replay x", Status::Usage),
-        ("Replay", Status::Usage),
-        ("drill", Status::Usage),
+fn operations_give_their_answers(rt: HostRuntime) -> Result<(), Fail> {
+    let refused = |line, cause| Status::UtcRefused { line, cause };
+    let month = TextFault {
+        field: TextField::Month,
+        offset: 4,
+    };
+    let epoch = "1970-01-01-00:00:00.0000000+00:00I0.0000000\n";
+    let digits = "00408113d21db2010000000000000010\n";
+    let both = format!(in rt.alloc(); "{digits}{epoch}")?;
+    for (lines, status, want) in [
+        ("", Status::Done, ""),
+        (
+            "add 1970-01-01-00:00:00.0I0.5 00-00:00:01.0I0.25\n",
+            Status::Done,
+            "1970-01-01-00:00:01.0000000+00:00I0.7500000\n",
+        ),
+        (
+            "bytes 1970-01-01-00:00:00I0\ntext 00408113d21db2010000000000000010",
+            Status::Done,
+            both.as_str(),
+        ),
+        (
+            "sub 00-00:00:01 1970-01-01-00:00:00\n",
+            refused(1, UtcCause::Routine(UtcFault::Kinds)),
+            "",
+        ),
+        (
+            "bytes 1970-01-01-00:00:00I0\nabs 1970-13-01-00:00:00\nbytes 1970-01-01-00:00:00I0\n",
+            refused(2, UtcCause::Text(month)),
+            digits,
+        ),
+        (
+            "bytes 1970-01-01-00:00:00I0\n\n",
+            refused(2, UtcCause::Word),
+            digits,
+        ),
+    ] {
+        let mut input = MemorySource::new(rt.alloc(), lines.as_bytes(), &[])?;
+        let mut output = MemorySink::new(rt.alloc(), &[])?;
+        let got = utc(rt.alloc(), &mut input, &mut output);
+        assert_eq!(rt; got, status, "the status of {lines:?}");
+        assert_eq!(rt;
+            output.written(),
+            want.as_bytes(),
+            "the answers of {lines:?}"
+        );
+    }
+    Ok(())
+}
+
+#[test]
+fn faults_of_a_calculation_are_answered(rt: HostRuntime) -> Result<(), Fail> {
+    let lines = b"bytes 00-00:00:00I0\nbytes 00-00:00:00I0\nbytes 00-00:00:00I0\n";
+    let answer = "00000000000000000000000000000020\n";
+    let two = format!(in rt.alloc(); "{answer}{answer}")?;
+    let all = format!(in rt.alloc(); "{two}{answer}")?;
+    let read_fault = Status::ReadFault {
+        which: SourceName::Input,
+    };
+    let write_fault = Status::WriteFault {
+        which: SinkName::Output,
+    };
+    for (read, write, status, want) in [
+        (1, 9, read_fault, ""),
+        (2, 9, read_fault, all.as_str()),
+        (9, 1, write_fault, ""),
+        (9, 3, write_fault, two.as_str()),
+        (9, 4, Status::Done, all.as_str()),
+    ] {
+        let mut input = MemorySource::new(rt.alloc(), lines, &[read])?;
+        let mut output = MemorySink::new(rt.alloc(), &[write])?;
+        let got = utc(rt.alloc(), &mut input, &mut output);
+        assert_eq!(rt; got, status, "where read {read} and write {write} fail");
+        assert_eq!(rt; output.written(), want.as_bytes());
+    }
+    Ok(())
+}
+
+#[test]
+fn the_words_are_one_command(rt: HostRuntime) -> Result<(), Fail> {
+    let word = Status::UtcRefused {
+        line: 2,
+        cause: UtcCause::Word,
+    };
+    for (line, input, status, want) in [
+        ("", "", Status::Usage, ""),
+        (
+            "replay",
+            "start 0 1 unknown",
+            Status::Done,
+            "record 0 0 0 - - - 0 1 0 0 0\n",
+        ),
+        ("replay", "", refused(1), ""),
+        (
+            "utc",
+            "mid 00-00:00:01 00-00:00:01",
+            Status::Done,
+            "equalTo\n",
+        ),
+        (
+            "utc",
+            "mid 00-00:00:01 00-00:00:01\nstart 0 1 unknown",
+            word,
+            "equalTo\n",
+        ),
+        ("replay x", "", Status::Usage, ""),
+        ("utc x", "", Status::Usage, ""),
+        ("replay utc", "", Status::Usage, ""),
+        ("Replay", "", Status::Usage, ""),
+        ("UTC", "", Status::Usage, ""),
+        ("drill", "", Status::Usage, ""),
     ] {
         let mut words = Vec::new(rt.alloc());
         for word in line.split_whitespace() {
             words.push(String::from_str(rt.alloc(), word)?)?;
         }
         let mut outside = Outside {
-            input: MemorySource::new(rt.alloc(), b"start 0 1 unknown", &[])?,
+            input: MemorySource::new(rt.alloc(), input.as_bytes(), &[])?,
             roster_file: MemorySource::new(rt.alloc(), b"", &[])?,
             output: MemorySink::new(rt.alloc(), &[])?,
             sync_capture: MemorySink::new(rt.alloc(), &[])?,
@@ -150,10 +257,7 @@ fn the_words_are_replay_alone(rt: HostRuntime) -> Result<(), Fail> {
         };
         let got = run(&rt, rt.alloc(), words.as_slice(), &mut outside);
         assert_eq!(rt; got, status, "at {line:?}");
-        assert_eq!(rt;
-            outside.output.written().is_empty(),
-            status == Status::Usage
-        );
+        assert_eq!(rt; outside.output.written(), want.as_bytes(), "at {line:?}");
     }
     Ok(())
 }
@@ -162,7 +266,7 @@ fn the_words_are_replay_alone(rt: HostRuntime) -> Result<(), Fail> {
 fn statuses_have_their_numbers_and_texts(rt: HostRuntime) -> Result<(), Fail> {
     for (status, number, text) in [
         (Status::Done, 0, "done"),
-        (Status::Usage, 1, "usage: dts replay"),
+        (Status::Usage, 1, "usage: dts replay | dts utc"),
         (refused(3), 2, "line 3, column 1: no such line"),
         (
             Status::ReadFault {
@@ -200,6 +304,14 @@ fn statuses_have_their_numbers_and_texts(rt: HostRuntime) -> Result<(), Fail> {
             "the serve log 2 can't be written",
         ),
         (Status::NoMemory, 6, "out of memory"),
+        (
+            Status::UtcRefused {
+                line: 3,
+                cause: UtcCause::Routine(UtcFault::Kinds),
+            },
+            7,
+            "line 3: the kinds of the operands do not allow it",
+        ),
     ] {
         assert_eq!(rt; status.number(), number);
         assert_eq!(rt; format!(in rt.alloc(); "{status}")?.as_str(), text);

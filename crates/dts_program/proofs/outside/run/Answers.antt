@@ -13,4 +13,10 @@ pub returns-in-len1-clause-usage : goal.returns-in-len1-clause-usage
 returns-in-len1-clause-usage g c =
     let words = one_item c.args.words.now c.word-item.result (omega (arith, c.in-len1.len_at_least, c.in-len1.len_below)) c.word-item.is in
     let word = sym c.as_str.ensures.value ∙ (bytes_decides _ _).0 (sym c.eq.ensures ∙ c.if-eq.true) in
-    (λ e. absurd (c.replay.ensures.no_usage e), λ no. absurd (no (ap (map string_bytes) words ∙ ap (λ w. w ∷ []) word)))
+    (λ e. absurd (rw e at c.replay.ensures.statuses), λ no. absurd (no.0 (ap (map string_bytes) words ∙ ap (λ w. w ∷ []) word)))
+
+pub returns-in-len1-2-clause-usage : goal.returns-in-len1-2-clause-usage
+returns-in-len1-2-clause-usage g c =
+    let words = one_item c.args.words.now c.word-item-then-words-lt2.result (omega (arith, c.in-len1.len_at_least, c.in-len1.len_below)) c.word-item-then-words-lt2.is in
+    let word = sym c.as_str-then-words-lt2.ensures.value ∙ (bytes_decides _ _).0 (sym c.eq-then-words-lt2.ensures ∙ c.if-eq-2.true) in
+    (λ e. absurd (rw e at c.utc.ensures.statuses), λ no. absurd (no.1 (ap (map string_bytes) words ∙ ap (λ w. w ∷ []) word)))

@@ -19,7 +19,7 @@ no_fault n k result s is refusal = record {
   failed = λ which fault. absurd (cc);
   no_read = λ which fault. absurd (cc);
   not_done = λ fault. absurd (cc);
-  not_usage = λ fault. absurd (cc);
+  of_replay = rw (is, refusal) tt;
 }
 
 pub returns-in_err-take-clause-cause : goal.returns-in_err-take-clause-cause
