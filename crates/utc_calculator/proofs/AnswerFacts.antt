@@ -1,5 +1,5 @@
 -- Refusals of lines.
-use Rattle.std.proofs.Common.{◌≡◌, ◌⊎◌, inl, inr, ℕ, List, Result, Ok, Err, MatchResult, IfErr, IsErrAnd, refl}
+use Rattle.std.proofs.Common.{◌≡◌, inr, ℕ, List, Result, Ok, Err, MatchResult, IfErr, IsErrAnd, refl}
 use Rattle.utc_calculator.specs.declared.answering.AnswerFault.{AnswerFault}
 use Rattle.utc_calculator.specs.declared.computing.Unwritten.{Unwritten}
 use Rattle.utc_calculator.specs.declared.computing.Unwritten.TheVariants as unwritten

@@ -1,5 +1,5 @@
 -- Numbers of 32 and 16 bits in decimal, as fields.
-use Rattle.std.proofs.Common.{◌≡◌, ◌≢◌, ℕ, zero, suc, ◌<◌, ◌≤◌, ◌^◌, List, [], ◌∷◌, length, get_or, Option, Some, None, Result, Ok, Err, MatchOption, MatchResult, ℤ, pos, negsuc, neg_ℤ, FitsSigned, refl, sym, ap, ◌∙◌, subst, arith, IsUtf8, eqb, Bool, true, false}
+use Rattle.std.proofs.Common.{◌≡◌, ◌≢◌, ℕ, zero, suc, ◌<◌, ◌^◌, List, [], ◌∷◌, get_or, Option, Some, None, Result, Ok, Err, MatchOption, MatchResult, ℤ, pos, negsuc, neg_ℤ, FitsSigned, refl, sym, ap, ◌∙◌, subst, arith, IsUtf8, eqb, Bool, true, false}
 use Rattle.std.specs.Prelude.{decimal}
 use lib.Signed.{mag}
 use Rattle.std.specs.Int.{w16, w32}

@@ -1,5 +1,5 @@
 -- Which field is the first that is not right.
-use Rattle.std.proofs.Common.{◌≡◌, ◌⊎◌, inl, inr, ℕ, ℤ, pos, List, [], ◌∷◌, map, codes, None, Result, Ok, Err, MatchResult, IfErr, IfOk, IsOkAnd, IsErrAnd, ◌↔◌, refl, sym, ap, length, arith}
+use Rattle.std.proofs.Common.{◌≡◌, ◌⊎◌, inl, inr, ℕ, ℤ, pos, List, [], ◌∷◌, map, codes, None, Result, Ok, Err, MatchResult, IfErr, IsOkAnd, IsErrAnd, ◌↔◌, refl, sym, ap, length, arith}
 use Rattle.std.specs.Prelude.{◌==◌}
 use Rattle.std.proofs.lemmas.List.Splits.{length-slice_split}
 use Rattle.dts_capture.specs.Fields.{fields_of}
@@ -11,7 +11,7 @@ use Rattle.utc_calculator.specs.declared.cause.UtcCause.{UtcCause}
 use Rattle.utc_calculator.specs.declared.cause.UtcCause.TheVariants as cause
 use Rattle.utc_calculator.specs.declared.operation.Operation.{Operation}
 use Rattle.utc_calculator.specs.declared.operation.Operation.TheVariants as op
-use Rattle.utc_calculator.specs.Operations.{Operand, Octets, OperandKind, OctetsKind, kind_of, word_of, operands_of, ReadEach, HasOperand, IsFirstWrong, RefusesFields, RefusesOctets, HasWrongOctets}
+use Rattle.utc_calculator.specs.Operations.{Operand, Octets, OperandKind, OctetsKind, kind_of, word_of, operands_of, ReadEach, HasOperand, IsFirstWrong, RefusesFields, HasWrongOctets}
 
 -- a later field is not right, where the one before it is
 pub behind : (x : Operand) (kinds : List OperandKind) (fields rest : List (List ℕ)) (c : UtcCause) → HasOperand fields x rest → IsFirstWrong kinds rest c → IsFirstWrong (kind_of x ∷ kinds) fields c

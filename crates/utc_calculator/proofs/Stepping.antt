@@ -1,10 +1,10 @@
 -- The calculator goes from one line to the next.
-use Rattle.std.proofs.Common.{◌≡◌, ◌⊎◌, inl, inr, ℕ, ◌+◌, ◌^◌, ◌<◌, ◌≤◌, Bool, true, false, List, [], ◌∷◌, ◌++◌, length, Option, Some, None, Result, Ok, Err, refl, sym, ap, ◌∙◌, subst, append_assoc, length-append, arith}
+use Rattle.std.proofs.Common.{◌≡◌, ◌⊎◌, inl, inr, ℕ, ◌+◌, ◌^◌, ◌<◌, Bool, true, false, List, [], ◌∷◌, ◌++◌, length, Option, Some, None, Result, Ok, Err, refl, sym, ap, ◌∙◌, subst, append_assoc, length-append, arith}
 use Rattle.dts_base.specs.Told.{Told}
 use Rattle.dts_base.proofs.ToldFacts.{Told-then}
 use Rattle.dts_base.specs.Streams.{BeginsWith, AppendsPart}
 use Rattle.line_reader.specs.Lines.{lines_of}
-use Rattle.line_reader.specs.Reader.{Reader, Advances, HasTaken, IsLong}
+use Rattle.line_reader.specs.Reader.{Reader, Advances, HasTaken}
 use Rattle.line_reader.proofs.Reading.{taken_more, taken_all}
 use Rattle.utc_calculator.specs.declared.cause.UtcCause.{UtcCause}
 use Rattle.utc_calculator.specs.declared.calculating.Stop.{Stop}

@@ -1,5 +1,5 @@
 -- What the calculator answers to lines. Our own choice.
-use Rattle.std.specs.Prelude.{◌≡◌, ◌⊎◌, ℕ, ◌+◌, ◌^◌, ◌<◌, ◌≤◌, List, [], ◌∷◌, ◌++◌, length}
+use Rattle.std.specs.Prelude.{◌≡◌, ◌⊎◌, ℕ, ◌^◌, ◌<◌, ◌≤◌, List, [], ◌∷◌, ◌++◌, length}
 use Rattle.utc_routines.specs.declared.UtcFault.{UtcFault}
 use Rattle.utc_text.specs.declared.fault.PrintFault.TheVariants as print
 use Rattle.utc_calculator.specs.declared.cause.UtcCause.{UtcCause}

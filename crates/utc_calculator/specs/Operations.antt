@@ -5,7 +5,7 @@ use Rattle.std.specs.Fmt.{signed_decimal}
 use Rattle.hex.specs.Hex.{decode_sized}
 use Rattle.utc_value.specs.declared.BytesFault.{BytesFault}
 use Rattle.utc_value.specs.declared.BytesFault.TheVariants as bytes
-use Rattle.utc_value.specs.Stamp.{Stamp}
+use Rattle.utc_value.specs.Stamp.{Stamp, IsInRange}
 use Rattle.utc_value.specs.Octets.{octets_of, version_in, tdf_in, IsVersion, IsTdfOfVersion}
 use Rattle.utc_text.specs.declared.fault.TextFault.{TextFault}
 use Rattle.utc_text.specs.Texts.{absolute_of, relative_of}
@@ -92,9 +92,14 @@ ReadEach [] (x ∷ xs) = ⊥
 ReadEach (field ∷ fields) [] = ⊥
 ReadEach (field ∷ fields) (x ∷ xs) = Reads field x × ReadEach fields xs
 
+-- the octets that are asked for are those of a timestamp
+abbrev pub IsOfTimestamp : Operation → Type 0
+IsOfTimestamp (op.Text a) = IsInRange a
+IsOfTimestamp _ = Unit {0}
+
 -- the line asks for the operation
 abbrev pub Spells : List ℕ → Operation → Type 0
-Spells line o = (fields : List (List ℕ)) × (fields_of line ≡ word_of o ∷ fields) × ReadEach fields (operands_of o)
+Spells line o = (fields : List (List ℕ)) × (fields_of line ≡ word_of o ∷ fields) × ReadEach fields (operands_of o) × IsOfTimestamp o
 
 -- why a field with octets is not right as an operand of that kind
 abbrev pub IsWrong : OperandKind → List ℕ → UtcCause → Type 0

@@ -1,5 +1,5 @@
 -- How far a calculation has come.
-use Rattle.std.specs.Prelude.{◌≡◌, ℕ, ◌+◌, ◌≤◌, Bool, List, [], ◌++◌, length, Option, Some, Result, Ok, Err, MatchResult, IsErrOf}
+use Rattle.std.specs.Prelude.{◌≡◌, ℕ, ◌+◌, ◌≤◌, Bool, List, [], length, Option, Some, Result, Ok, Err, MatchResult, IsErrOf}
 use Rattle.std.specs.Bool.{MatchBool}
 use Rattle.dts_base.specs.Causes.{Rose}
 use Rattle.line_reader.specs.Lines.{lines_of}

@@ -1,5 +1,5 @@
 -- What operations result in, and how that is written. The results are those of the routines (after C310).
-use Rattle.std.specs.Prelude.{◌≡◌, ◌⊎◌, ℕ, List, [], ◌∷◌, codes, ℤ}
+use Rattle.std.specs.Prelude.{◌≡◌, ◌⊎◌, ℕ, List, [], ◌∷◌, codes}
 use Rattle.utc_value.specs.declared.Kind.{Kind}
 use Rattle.utc_value.specs.declared.Kind.TheVariants as kind
 use Rattle.utc_value.specs.Stamp.{Stamp, IsInRange}

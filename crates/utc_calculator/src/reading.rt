@@ -5,8 +5,9 @@ ghost use Rattle.std.specs.Int.{w16, w32};
 ghost use Rattle.std.specs.Fmt.{signed_decimal};
 ghost use Rattle.hex.specs.Hex.{decode_sized};
 ghost use Rattle.utc_value.specs.Octets.{octets_of};
+ghost use Rattle.utc_value.specs.Stamp.{IsInRange};
 ghost use Rattle.dts_capture.specs.Fields.{fields_of};
-ghost use Rattle.utc_calculator.specs.Operations.{Time, Number, Minutes, Octets, Times, Numbers, MinutesKind, OctetsKind, Reads, ReadEach, Spells, IsNextWrong, IsLeftOver, IsFirstWrong, HasOperand, HasWrongOctets, RefusesFields, RefusesReading, operands_of, IsPlainNumber, is_relative_form, time_of, word_of};
+ghost use Rattle.utc_calculator.specs.Operations.{Time, Number, Minutes, Octets, Times, Numbers, MinutesKind, OctetsKind, Reads, ReadEach, Spells, IsOfTimestamp, IsNextWrong, IsLeftOver, IsFirstWrong, HasOperand, HasWrongOctets, RefusesFields, RefusesReading, operands_of, IsPlainNumber, is_relative_form, time_of, word_of};
 
 use crate::{Operation, UtcCause};
 use dts_capture::Fields;
@@ -29,7 +30,7 @@ pub fn parse(line: &[u8]) -> Result<Operation, UtcCause>
 
 // Takes the operands of the operation that has this word.
 fn after_word(word: &[u8], fields: Fields) -> Result<Operation, UtcCause>
-    ensures ok { IfOk result (λ o. (word.now ≡ word_of o) × ReadEach fields.entry (operands_of o)) }
+    ensures ok { IfOk result (λ o. (word.now ≡ word_of o) × ReadEach fields.entry (operands_of o) × IsOfTimestamp o) }
     ensures err { IfErr result (RefusesFields word.now fields.entry) }
 {
     if word == b"add".as_slice() {
@@ -203,7 +204,7 @@ fn time_and_minutes(mut fields: Fields) -> Result<(Utc, i16), UtcCause>
 
 // Sixteen octets that are a timestamp, and no more.
 fn octets_of_time(mut fields: Fields) -> Result<Utc, UtcCause>
-    ensures ok { IfOk result (λ a. ReadEach fields.entry (Octets (octets_of a) ∷ [])) }
+    ensures ok { IfOk result (λ a. ReadEach fields.entry (Octets (octets_of a) ∷ []) × IsInRange a) }
     ensures err { IfErr result (λ c. IsFirstWrong (OctetsKind ∷ []) fields.entry c ⊎ HasWrongOctets (codes "text") fields.entry c) }
 {
     let octets = octets(&mut fields)?;

@@ -207,6 +207,7 @@ impl Utc {
     #[tactic(auto, unfolding(crate::specs::Octets::octets_of))]
     pub fn from_bytes(octets: [u8; 16]) -> Result<Utc, BytesFault>
         ensures ok { IfOk result (λ u. octets_of u ≡ octets) }
+        ensures in_range { IfOk result IsInRange }
         ensures reads_back { (s : Stamp) → IsInRange s → octets_of s ≡ octets → result ≡ Ok s }
         ensures version { (found : ℕ) → (result ≡ Err (BytesFault.Version found))
             ↔ ((found ≡ version_in octets) × (¬ IsVersion found)) }

@@ -1,4 +1,4 @@
-use Rattle.std.proofs.Common.{◌≡◌, ℕ, ◌-◌, ◌^◌, ◌<◌, ◌≤◌, List, Option, Some}
+use Rattle.std.proofs.Common.{◌≡◌, ℕ, ◌-◌, ◌^◌, ◌<◌, ◌≤◌, List, Some}
 use Rattle.utc_calculator.specs.Progress.{Stands}
 use Rattle.utc_calculator.proofs.calculating.calculate.Given as goal
 
