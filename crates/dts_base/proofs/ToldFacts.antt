@@ -1,6 +1,7 @@
 -- Calls in a row of an object that may tell its content.
-use Rattle.std.proofs.Common.{◌≡◌, Option, Some, None, refl, sym, ◌∙◌, subst}
+use Rattle.std.proofs.Common.{ℕ, List, ◌++◌, Option, Some, None, refl, ap, ◌∙◌, subst, append_assoc}
 use Rattle.dts_base.specs.Told.{Told}
+use Rattle.dts_base.specs.Streams.{Wrote}
 
 -- what nothing changed is told as before
 pub Told-same : {A : Type 0} (R : A → A → Type 0) (a : Option A) → ((x : A) → R x x) → Told a a R
@@ -21,3 +22,8 @@ Told-then {A} R S Q (Some x) b c first second h =
 pub Told-weaker : {A : Type 0} (R Q : A → A → Type 0) (a b : Option A) → Told a b R → ((x y : A) → R x y → Q x y) → Told a b Q
 Told-weaker R Q None b told h = told
 Told-weaker R Q (Some x) b told h = (told.0, told.1, h x told.0 told.2)
+
+-- more text after text
+pub Wrote-then : (before mid after : Option (List ℕ)) (text more : List ℕ) → Wrote before mid text → Wrote mid after more → Wrote before after (text ++ more)
+Wrote-then before mid after text more first second =
+    Told-then _ _ _ before mid after first second (λ x y z e f. f ∙ ap (λ w. w ++ more) e ∙ append_assoc x text more)

@@ -28,6 +28,20 @@ impl Bytes {
         })
     }
 
+    /// These octets, in the memory that they have.
+    pub fn from_vec(octets: Vec<u8>) -> Bytes
+        ensures octets { result ≡ octets.items }
+    {
+        Bytes { octets }
+    }
+
+    /// Gives the octets up, in the memory that they have.
+    pub fn into_vec(self) -> Vec<u8>
+        ensures octets { result.items ≡ self }
+    {
+        self.octets
+    }
+
     /// Lends the octets.
     pub fn as_slice(&self) -> &[u8]
         ensures octets { result.now ≡ self.now }
@@ -58,6 +72,22 @@ impl Text {
         Ok(Text {
             octets: Bytes::from_slice(alloc, b)?,
         })
+    }
+
+    /// These octets, in the memory that they have.
+    pub fn from_vec(octets: Vec<u8>) -> Text
+        ensures octets { result ≡ octets.items }
+    {
+        Text {
+            octets: Bytes::from_vec(octets),
+        }
+    }
+
+    /// Gives the octets up, in the memory that they have.
+    pub fn into_vec(self) -> Vec<u8>
+        ensures octets { result.items ≡ self }
+    {
+        self.octets.into_vec()
     }
 
     /// Lends the octets.

@@ -1,7 +1,7 @@
 ghost use Rattle.std.specs.Prelude.{◌≡◌, ℕ, ◌<◌, ◌≤◌, ◌++◌, List, Option, IfOk, OnOk, OnErr, length};
 ghost use Rattle.dts_base.specs.Causes.{HasCause};
 ghost use Rattle.dts_base.specs.Told.{Told};
-ghost use Rattle.dts_base.specs.Streams.{Writes, AppendsPart};
+ghost use Rattle.dts_base.specs.Streams.{Writes, Wrote, AppendsPart};
 
 use crate::Failed;
 
@@ -23,7 +23,7 @@ pub trait Sink {
 
 /// Writes the whole piece. After `Failed` a part of it from its beginning was written.
 pub fn write_all<S: Sink>(sink: &mut S, piece: &[u8]) -> Result<(), Failed>
-    ensures whole { OnOk result (Told (S.written sink.old) (S.written sink.new) (λ old new. new ≡ old ++ piece.now)) }
+    ensures whole { OnOk result (Wrote (S.written sink.old) (S.written sink.new) piece.now) }
     ensures part { OnErr result (Told (S.written sink.old) (S.written sink.new) (AppendsPart piece.now)) }
     ensures cause { HasCause (S.faults sink.old) (S.faults sink.new) result }
 {

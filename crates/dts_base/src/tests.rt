@@ -11,6 +11,10 @@ fn octets_are_kept(rt: HostRuntime) -> Result<(), Fail> {
     let bytes = Bytes::from_slice(rt.alloc(), b"abc")?;
     let text = Text::from_slice(rt.alloc(), bytes.as_slice())?;
     assert_eq!(rt; text.as_slice(), b"abc".as_slice());
+    let text = Text::from_vec(bytes.into_vec());
+    assert_eq!(rt; text.as_slice(), b"abc".as_slice());
+    let bytes = Bytes::from_vec(text.into_vec());
+    assert_eq!(rt; bytes.as_slice(), b"abc".as_slice());
     Ok(())
 }
 

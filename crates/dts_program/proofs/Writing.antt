@@ -1,7 +1,8 @@
 -- What is written as a replay goes on, and where it stops.
 use Rattle.std.proofs.Common.{◌≡◌, inl, inr, ℕ, ◌+◌, List, [], ◌∷◌, ◌++◌, Option, Some, None, refl, sym, ap, ◌∙◌, subst, append_assoc}
 use Rattle.std.proofs.lemmas.List.{append-nil}
-use Rattle.dts_base.proofs.ToldFacts.{Told-then}
+use Rattle.dts_base.specs.Streams.{Wrote}
+use Rattle.dts_base.proofs.ToldFacts.{Wrote-then}
 use Rattle.slew_clock.specs.declared.rates.Rates.{Rates}
 use Rattle.dts_capture.specs.declared.action.Action.{Action}
 use Rattle.dts_capture.specs.declared.line.LineCause.TheVariants as cause
@@ -10,14 +11,9 @@ use Rattle.dts_program.specs.declared.replay.Replay.{Replay}
 use Rattle.dts_program.specs.declared.status.Status.{Status}
 use Rattle.dts_program.specs.declared.status.Status.TheVariants as status
 use Rattle.dts_program.specs.Capture.{Capture}
-use Rattle.dts_program.specs.Output.{output_of, IsPart, Stops, Wrote}
+use Rattle.dts_program.specs.Output.{output_of, IsPart, Stops}
 use Rattle.dts_program.specs.Standing.{StandsAt, IsStanding, Took, GoesNoFurther, logged}
 use Rattle.dts_program.specs.Progress.{IsWriteEnd, WrotePart, Stands, HasStopped}
-
--- more text after text
-pub Wrote-then : (before mid after : Option (List ℕ)) (text more : List ℕ) → Wrote before mid text → Wrote mid after more → Wrote before after (text ++ more)
-Wrote-then before mid after text more first second =
-    Told-then _ _ _ before mid after first second (λ x y z e f. f ∙ ap (λ w. w ++ more) e ∙ append_assoc x text more)
 
 -- a taken line keeps the replay standing
 pub still_stands : (old new : Replay) (text : List ℕ) (action : Option Action) → IsStanding old

@@ -1,8 +1,8 @@
 -- The output of the command `utc`. Our own choice.
 use Rattle.std.specs.Prelude.{◌≡◌, ℕ, List, Option}
+use Rattle.dts_base.specs.Streams.{Wrote}
 use Rattle.utc_calculator.specs.Answers.{AreAnswered}
 use Rattle.utc_calculator.specs.Output.{IsRefusedLine, AnswersFront, BeginsAnswers}
-use Rattle.dts_program.specs.Output.{Wrote}
 use Rattle.dts_program.specs.declared.status.Status.{Status}
 use Rattle.dts_program.specs.declared.status.Status.TheVariants as status
 use Rattle.dts_program.specs.declared.status.SourceName.TheVariants as source

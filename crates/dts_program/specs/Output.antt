@@ -1,7 +1,6 @@
 -- The output of a command. Our own choice.
 use Rattle.std.specs.Prelude.{◌≡◌, ◌⊎◌, ℕ, List, [], ◌++◌, Option, Some, None}
-use Rattle.dts_base.specs.Told.{Told}
-use Rattle.dts_base.specs.Streams.{BeginsWith}
+use Rattle.dts_base.specs.Streams.{BeginsWith, Wrote}
 use Rattle.slew_clock.specs.declared.rates.Rates.{Rates}
 use Rattle.dts_capture.specs.declared.line.LineCause.{LineCause}
 use Rattle.dts_capture.specs.declared.line.LineCause.TheVariants as cause
@@ -53,10 +52,6 @@ Replays rates texts (status.ReadFault which) text = (which ≡ source.Input) × 
 Replays rates texts (status.WriteFault which) text = (which ≡ sink.Output) × IsPart rates texts text
 Replays rates texts status.NoMemory text = IsPart rates texts text
 Replays rates texts (status.UtcRefused line why) text = ⊥
-
--- a sink that told what it held tells that, and then the text
-abbrev pub Wrote : Option (List ℕ) → Option (List ℕ) → List ℕ → Type 0
-Wrote before now text = Told before now (λ old new. new ≡ old ++ text)
 
 -- the log of a history where the replay came to its end or to a refused line, and else the beginning of one
 abbrev pub IsLogAt : Status → List ℕ → History → Type 0

@@ -1,10 +1,10 @@
 -- How far a replay has come, and what it wrote. Our own choice.
 use Rattle.std.specs.Prelude.{◌≡◌, ◌⊎◌, ℕ, ◌≤◌, List, Option, Result, MatchResult, IfErr, IsErrOf}
 use Rattle.dts_base.specs.Causes.{Rose}
-use Rattle.dts_base.specs.Streams.{BeginsWith}
+use Rattle.dts_base.specs.Streams.{BeginsWith, Wrote}
 use Rattle.slew_clock.specs.declared.rates.Rates.{Rates}
 use Rattle.dts_program.specs.Capture.{Capture}
-use Rattle.dts_program.specs.Output.{output_of, Stops, Replays, Wrote}
+use Rattle.dts_program.specs.Output.{output_of, Stops, Replays}
 use Rattle.dts_program.specs.Standing.{StandsAt}
 use Rattle.dts_program.specs.Statuses.{IsReplayStatus}
 use Rattle.dts_program.specs.declared.replay.Replay.{Replay}

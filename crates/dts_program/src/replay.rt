@@ -2,7 +2,7 @@ ghost use Rattle.std.specs.Prelude.{◌≡◌, ℕ, ◌+◌, ◌<◌, ◌≤◌,
 ghost use Rattle.slew_clock.specs.declared.rates.Rates.{Rates};
 ghost use Rattle.dts_capture.specs.Log.{log_text};
 ghost use Rattle.dts_program.specs.Capture.{Capture};
-ghost use Rattle.dts_program.specs.Output.{Wrote};
+ghost use Rattle.dts_base.specs.Streams.{Wrote};
 ghost use Rattle.dts_program.specs.Progress.{IsWriteEnd, WrotePart, TakeCause};
 
 use crate::node::Node;

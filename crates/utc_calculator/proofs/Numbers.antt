@@ -1,5 +1,5 @@
 -- Numbers of 32 and 16 bits in decimal, as fields.
-use Rattle.std.proofs.Common.{◌≡◌, ◌≢◌, ℕ, zero, suc, ◌<◌, ◌^◌, List, [], ◌∷◌, get_or, Option, Some, None, Result, Ok, Err, MatchOption, MatchResult, ℤ, pos, negsuc, neg_ℤ, FitsSigned, refl, sym, ap, ◌∙◌, subst, arith, IsUtf8, eqb, Bool, true, false}
+use Rattle.std.proofs.Common.{◌≡◌, ◌≢◌, ℕ, zero, suc, ◌<◌, ◌^◌, List, [], ◌∷◌, get_or, Option, Result, Ok, Err, MatchOption, ℤ, pos, negsuc, neg_ℤ, FitsSigned, refl, sym, ap, ◌∙◌, subst, arith, IsUtf8, eqb, Bool, true, false}
 use Rattle.std.specs.Prelude.{decimal}
 use lib.Signed.{mag}
 use Rattle.std.specs.Int.{w16, w32}
@@ -19,9 +19,9 @@ own = numerals_by_value (AllDigits 10) tells_digits
 
 -- what is written of a number is plain
 pub signed_plain : (k : ℤ) → FitsSigned w32 k → IsPlainNumber (signed_decimal k)
-signed_plain (pos zero) h = rw (decimal_digit 0 (omega arith)) (λ e. absurd (omega (arith, e)), λ _. refl, λ e. absurd (omega (arith, e)))
-signed_plain (pos (suc n)) h = let f = first_decimal (suc n) (omega arith) (omega (arith, h.sfits)) in (λ e. omega (arith, f, e), λ e. absurd (omega (arith, f, e)), λ e. absurd (omega (arith, f, e)))
-signed_plain (negsuc n) h = let f = first_decimal (suc n) (omega arith) (omega (arith, h.sfits)) in (λ e. omega (arith, e), λ e. absurd (omega (arith, e)), λ _ e. omega (arith, f, e))
+signed_plain (pos zero) h = rw (decimal_digit 0 (omega arith)) ((λ e. absurd (omega (arith, e)), λ _. refl), λ e. absurd (omega (arith, e)))
+signed_plain (pos (suc n)) h = let f = first_decimal (suc n) (omega arith) (omega (arith, h.sfits)) in ((λ e. omega (arith, f, e), λ e. absurd (omega (arith, f, e))), λ e. absurd (omega (arith, f, e)))
+signed_plain (negsuc n) h = let f = first_decimal (suc n) (omega arith) (omega (arith, h.sfits)) in ((λ e. omega (arith, e), λ e. absurd (omega (arith, e))), λ _ e. omega (arith, f, e))
 
 -- and is text
 pub signed_text : (k : ℤ) → FitsSigned w32 k → IsUtf8 (signed_decimal k)
@@ -41,13 +41,13 @@ read_minus ds r k parses first is =
 
 read_plain : {E : Type 0} (field : List ℕ) (r : Result ℤ E) (k : ℤ) → ParsesSigned w32 10 field r → IsPlainNumber field → get_or field 0 0 ≢ 45 → r ≡ Ok k → field ≡ signed_decimal k
 read_plain field r k parses plain minus is =
-    let p = OkIff-at_ok r _ _ k (parse_signed_plain own w32 field r parses plain.0 minus) is in
-    sym (rw p.1 (decimal-digits_value own field p.0.0 p.0.1 plain.1 (omega (arith, p.0.2))))
+    let p = OkIff-at_ok r _ _ k (parse_signed_plain own w32 field r parses plain.0.0 minus) is in
+    sym (rw p.1 (decimal-digits_value own field p.0.0 p.0.1 plain.0.1 (omega (arith, p.0.2))))
 
 read_at : {E : Type 0} (first : ℕ) (ds : List ℕ) (r : Result ℤ E) (k : ℤ) (minus : Bool) → eqb first 45 ≡ minus → ParsesSigned w32 10 (first ∷ ds) r → IsPlainNumber (first ∷ ds) → r ≡ Ok k → first ∷ ds ≡ signed_decimal k
 read_at {E} first ds r k true test parses plain is =
     let sign : first ≡ 45 = eqb-true first 45 test in
-    let same : 45 ∷ ds ≡ signed_decimal k = read_minus {E = E} ds r k (subst (λ (x : ℕ). ParsesSigned w32 10 (x ∷ ds) r) sign parses) (plain.2 sign) is in
+    let same : 45 ∷ ds ≡ signed_decimal k = read_minus {E = E} ds r k (subst (λ (x : ℕ). ParsesSigned w32 10 (x ∷ ds) r) sign parses) (plain.1 sign) is in
     ap (λ (x : ℕ). x ∷ ds) sign ∙ same
 read_at {E} first ds r k false test parses plain is = read_plain {E = E} (first ∷ ds) r k parses plain (eqb-false first 45 test) is
 
@@ -59,16 +59,6 @@ plain_read {E} (first ∷ ds) r k parses plain is = read_at {E = E} first ds r k
 -- what is read fits
 read_fits : {E : Type 0} (field : List ℕ) (r : Result ℤ E) (k : ℤ) → ParsesSigned w32 10 field r → r ≡ Ok k → FitsSigned w32 k
 read_fits field r k parses is = let p = OkIff-at_ok r _ _ k parses is in rw p.1 p.0.1
-
--- what a failed `ok` says of the result that it was called on
-pub ok_missing : {T E A : Type 0} (r : Result T E) (o : Option T) (P : T → Type 0) (Q : E → Type 0) → o ≡ None → o ≡ result_ok r → MatchResult r P Q → ((y : E) → Q y → A) → A
-ok_missing (Ok x) o P Q none is h then = cc
-ok_missing (Err y) o P Q none is h then = then y h
-
--- and what a value says
-pub ok_found : {T E : Type 0} (r : Result T E) (o : Option T) (x : T) (P : T → Type 0) (Q : E → Type 0) → o ≡ Some x → o ≡ result_ok r → MatchResult r P Q → P x
-ok_found (Ok y) o x P Q some is h = let e : y ≡ x = cc in subst P e h
-ok_found (Err y) o x P Q some is h = cc
 
 small : (k : ℤ) → FitsSigned w32 k → mag k < 2 ^ 63
 small (pos n) h = omega (arith, h.sfits)

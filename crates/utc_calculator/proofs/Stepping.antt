@@ -1,8 +1,8 @@
 -- The calculator goes from one line to the next.
 use Rattle.std.proofs.Common.{◌≡◌, ◌⊎◌, inl, inr, ℕ, ◌+◌, ◌^◌, ◌<◌, Bool, true, false, List, [], ◌∷◌, ◌++◌, length, Option, Some, None, Result, Ok, Err, refl, sym, ap, ◌∙◌, subst, append_assoc, length-append, arith}
 use Rattle.dts_base.specs.Told.{Told}
-use Rattle.dts_base.proofs.ToldFacts.{Told-then}
-use Rattle.dts_base.specs.Streams.{BeginsWith, AppendsPart}
+use Rattle.dts_base.proofs.ToldFacts.{Wrote-then}
+use Rattle.dts_base.specs.Streams.{BeginsWith, AppendsPart, Wrote}
 use Rattle.line_reader.specs.Lines.{lines_of}
 use Rattle.line_reader.specs.Reader.{Reader, Advances, HasTaken}
 use Rattle.line_reader.proofs.Reading.{taken_more, taken_all}
@@ -10,7 +10,7 @@ use Rattle.utc_calculator.specs.declared.cause.UtcCause.{UtcCause}
 use Rattle.utc_calculator.specs.declared.calculating.Stop.{Stop}
 use Rattle.utc_calculator.specs.declared.calculating.Stop.TheVariants as stop
 use Rattle.utc_calculator.specs.Answers.{IsAnswered, AnswerEach, AreAnswered, RefusesLine, IsStopAt}
-use Rattle.utc_calculator.specs.Output.{Wrote, Calculates, HasCalculated, RefusesNone}
+use Rattle.utc_calculator.specs.Output.{Calculates, HasCalculated, RefusesNone}
 use Rattle.utc_calculator.specs.Progress.{Stands}
 
 -- one more answer
@@ -18,10 +18,6 @@ each_more : (lines : List (List ℕ)) (line answer text : List ℕ) → AnswerEa
 each_more [] line answer text each is = rw each (answer, [], is, refl, refl)
 each_more (first ∷ lines) line answer text (front, rest, is_first, each, all) is =
     (front, rest ++ (answer ++ 10 ∷ []), is_first, each_more lines line answer rest each is, ap (λ x. x ++ (answer ++ 10 ∷ [])) all ∙ append_assoc front (10 ∷ rest) (answer ++ 10 ∷ []))
-
--- what is told twice
-Wrote-then : (before now more : Option (List ℕ)) (text piece : List ℕ) → Wrote before now text → Wrote now more piece → Wrote before more (text ++ piece)
-Wrote-then before now more text piece first second = Told-then _ _ _ before now more first second (λ x y z a b. b ∙ ap (λ w. w ++ piece) a ∙ append_assoc x text piece)
 
 -- a part of a piece was written
 Wrote-part : (now more : Option (List ℕ)) (piece : List ℕ) → Told now more (AppendsPart piece) → (part : List ℕ) × BeginsWith part piece × Wrote now more part

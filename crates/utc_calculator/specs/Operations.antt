@@ -1,5 +1,5 @@
 -- The lines that the calculator reads: an operation's word and then its operands. Our own choice, after C310's routines.
-use Rattle.std.specs.Prelude.{◌≡◌, ◌≢◌, ◌⊎◌, ℕ, ◌==◌, ◌||◌, Bool, not, List, [], ◌∷◌, map, codes, get_or, slice_index, length, ℤ, FitsSigned, Result, Ok, Err, if◌then◌else◌}
+use Rattle.std.specs.Prelude.{◌≡◌, ◌≢◌, ◌⊎◌, ℕ, ◌==◌, ◌||◌, Bool, not, List, [], ◌∷◌, map, codes, get_or, slice_index, ℤ, FitsSigned, Result, Ok, Err, if◌then◌else◌}
 use Rattle.std.specs.Int.{w16, w32}
 use Rattle.std.specs.Fmt.{signed_decimal}
 use Rattle.hex.specs.Hex.{decode_sized}
@@ -9,7 +9,7 @@ use Rattle.utc_value.specs.Stamp.{Stamp, IsInRange}
 use Rattle.utc_value.specs.Octets.{octets_of, version_in, tdf_in, IsVersion, IsTdfOfVersion}
 use Rattle.utc_text.specs.declared.fault.TextFault.{TextFault}
 use Rattle.utc_text.specs.Texts.{absolute_of, relative_of}
-use Rattle.dts_capture.specs.Fields.{fields_of}
+use Rattle.dts_capture.specs.Fields.{fields_of, IsPlain}
 use Rattle.utc_calculator.specs.declared.cause.UtcCause.{UtcCause}
 use Rattle.utc_calculator.specs.declared.cause.UtcCause.TheVariants as cause
 use Rattle.utc_calculator.specs.declared.operation.Operation.{Operation}
@@ -156,4 +156,4 @@ RefusesReading line c = (word : List ℕ) × (fields : List (List ℕ)) × (fiel
 
 -- neither a plus, nor a zero before other octets, nor a zero behind a minus stands first
 abbrev pub IsPlainNumber : List ℕ → Type 0
-IsPlainNumber field = (slice_index field 0 ≢ 43) × (slice_index field 0 ≡ 48 → length field ≡ 1) × (slice_index field 0 ≡ 45 → slice_index field 1 ≢ 48)
+IsPlainNumber field = IsPlain field × (slice_index field 0 ≡ 45 → slice_index field 1 ≢ 48)

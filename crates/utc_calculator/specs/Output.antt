@@ -1,7 +1,6 @@
 -- What the calculator wrote for the lines of an input. Our own choice.
 use Rattle.std.specs.Prelude.{◌≡◌, ℕ, ◌+◌, List, ◌∷◌, ◌++◌, length, Option, Result, Ok, Err}
-use Rattle.dts_base.specs.Told.{Told}
-use Rattle.dts_base.specs.Streams.{BeginsWith}
+use Rattle.dts_base.specs.Streams.{BeginsWith, Wrote}
 use Rattle.utc_calculator.specs.declared.cause.UtcCause.{UtcCause}
 use Rattle.utc_calculator.specs.declared.calculating.Stop.{Stop}
 use Rattle.utc_calculator.specs.declared.calculating.Stop.TheVariants as stop
@@ -35,10 +34,6 @@ Calculates lines (Err (stop.Refused n c)) text = IsRefusedLine lines n c text
 Calculates lines (Err stop.Read) text = AnswersFront lines text
 Calculates lines (Err stop.Write) text = BeginsAnswers lines text
 Calculates lines (Err stop.NoMemory) text = AnswersFront lines text
-
--- a sink that told what it held tells that, and then the text
-abbrev pub Wrote : Option (List ℕ) → Option (List ℕ) → List ℕ → Type 0
-Wrote before now text = Told before now (λ old new. new ≡ old ++ text)
 
 -- the calculation ends or stops so, and so much was written since the sink told `before`
 pub record HasCalculated (lines : List (List ℕ)) (result : Result (Unit {0}) Stop) (before now : Option (List ℕ)) : Type 0 where

@@ -2,11 +2,12 @@
 use Rattle.std.specs.Prelude.{◌≡◌, ℕ, ◌+◌, ◌≤◌, Bool, List, [], length, Option, Some, Result, Ok, Err, MatchResult, IsErrOf}
 use Rattle.std.specs.Bool.{MatchBool}
 use Rattle.dts_base.specs.Causes.{Rose}
+use Rattle.dts_base.specs.Streams.{Wrote}
 use Rattle.line_reader.specs.Lines.{lines_of}
 use Rattle.line_reader.specs.Reader.{Reader, HasTaken}
 use Rattle.utc_calculator.specs.declared.calculating.Stop.{Stop}
 use Rattle.utc_calculator.specs.Answers.{AreAnswered}
-use Rattle.utc_calculator.specs.Output.{HasCalculated, Wrote}
+use Rattle.utc_calculator.specs.Output.{HasCalculated}
 
 -- so many lines of the octets were taken, and their answers written since the sink told `before`
 pub record Stands (octets : List ℕ) (number : ℕ) (reader : Reader) (left before now : Option (List ℕ)) : Type 0 where

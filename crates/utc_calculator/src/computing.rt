@@ -51,9 +51,9 @@ impl From<AllocError> for Unwritten {
     }
 }
 
-// Writes the text of a timestamp behind what is there.
-fn push_time(alloc: Global, out: &mut Vec<u8>, time: Utc) -> Result<(), Unwritten>
-    ensures ok { OnOk result ((text : List ℕ) × IsTextOf time text × (out.new.items ≡ out.old.items ++ text)) }
+// The text of a timestamp.
+fn time_text(alloc: Global, time: Utc) -> Result<Vec<u8>, Unwritten>
+    ensures ok { IfOk result (λ text. IsTextOf time text.items) }
     ensures err { IfErr result (IsUnwritten (HasNoText time)) }
 {
     let printed = match time.kind() {
@@ -61,7 +61,7 @@ fn push_time(alloc: Global, out: &mut Vec<u8>, time: Utc) -> Result<(), Unwritte
         Kind::Relative => print_rel(alloc, time),
     };
     match printed {
-        Ok(text) => Ok(out.extend_from_slice(text.as_slice())?),
+        Ok(text) => Ok(text.into_vec()),
         Err(PrintFault::NoMemory) => Err(Unwritten::NoMemory),
         Err(_) => Err(Unwritten::Year),
     }
@@ -79,37 +79,29 @@ fn word(order: Order4) -> &'static [u8]
     }
 }
 
-// Writes the texts of three timestamps, joined by single spaces.
-fn push_points(
-    alloc: Global,
-    out: &mut Vec<u8>,
-    first: Utc,
-    middle: Utc,
-    last: Utc,
-) -> Result<(), Unwritten>
-    ensures ok { OnOk result ((text : List ℕ) × AreTextsOf first middle last text × (out.new.items ≡ out.old.items ++ text)) }
+// The texts of three timestamps, joined by single spaces.
+fn points_text(alloc: Global, first: Utc, middle: Utc, last: Utc) -> Result<Vec<u8>, Unwritten>
+    ensures ok { IfOk result (λ text. AreTextsOf first middle last text.items) }
     ensures err { IfErr result (IsUnwritten (RefusesShowing (Outcome.Points first middle last))) }
 {
-    push_time(alloc, out, first)?;
-    out.extend_from_slice(b" ")?;
-    push_time(alloc, out, middle)?;
-    out.extend_from_slice(b" ")?;
-    push_time(alloc, out, last)
+    let mut text = time_text(alloc, first)?;
+    text.extend_from_slice(b" ")?;
+    text.extend_from_slice(time_text(alloc, middle)?.as_slice())?;
+    text.extend_from_slice(b" ")?;
+    text.extend_from_slice(time_text(alloc, last)?.as_slice())?;
+    Ok(text)
 }
 
-// Writes the text of an outcome.
-fn push_outcome(alloc: Global, out: &mut Vec<u8>, outcome: Outcome) -> Result<(), Unwritten>
-    ensures ok { OnOk result ((text : List ℕ) × Shows outcome text × (out.new.items ≡ out.old.items ++ text)) }
+// The text of an outcome.
+fn outcome_text(alloc: Global, outcome: Outcome) -> Result<Vec<u8>, Unwritten>
+    ensures ok { IfOk result (λ text. Shows outcome text.items) }
     ensures err { IfErr result (IsUnwritten (RefusesShowing outcome)) }
 {
     match outcome {
-        Outcome::Time(time) => push_time(alloc, out, time),
-        Outcome::Points(first, middle, last) => push_points(alloc, out, first, middle, last),
-        Outcome::Order(order) => Ok(out.extend_from_slice(word(order))?),
-        Outcome::Octets(octets) => {
-            let digits = hex::encode(alloc, octets)?;
-            Ok(out.extend_from_slice(digits.as_bytes())?)
-        }
+        Outcome::Time(time) => time_text(alloc, time),
+        Outcome::Points(first, middle, last) => points_text(alloc, first, middle, last),
+        Outcome::Order(order) => Ok(word(order).to_vec(alloc)?),
+        Outcome::Octets(octets) => Ok(hex::encode(alloc, octets)?.into_bytes()),
     }
 }
 
@@ -118,8 +110,7 @@ pub fn line_of(alloc: Global, outcome: Outcome) -> Result<Vec<u8>, Unwritten>
     ensures ok { IfOk result (λ line. (text : List ℕ) × Shows outcome text × (line.items ≡ text ++ 10 ∷ [])) }
     ensures err { IfErr result (IsUnwritten (RefusesShowing outcome)) }
 {
-    let mut line = Vec::new(alloc);
-    push_outcome(alloc, &mut line, outcome)?;
+    let mut line = outcome_text(alloc, outcome)?;
     line.extend_from_slice(b"\n")?;
     Ok(line)
 }

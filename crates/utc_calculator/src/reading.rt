@@ -96,10 +96,12 @@ fn is_relative_form(text: &[u8]) -> bool
 fn time_of(text: &[u8]) -> Result<Utc, TextFault>
     ensures { result ≡ time_of text.now }
 {
-    match (parse_abs(text), parse_rel(text)) {
-        (Ok(time), _) | (Err(_), Ok(time)) => Ok(time),
-        (Err(_), Err(fault)) if is_relative_form(text) => Err(fault),
-        (Err(fault), Err(_)) => Err(fault),
+    match parse_abs(text) {
+        Ok(time) => Ok(time),
+        Err(fault) => match parse_rel(text) {
+            Err(_) if !is_relative_form(text) => Err(fault),
+            read => read,
+        },
     }
 }
 

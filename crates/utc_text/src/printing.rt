@@ -13,9 +13,12 @@ ghost use Rattle.utc_text.specs.Printing.{IsShown, clock_shown, tdf_shown, inacc
 use crate::calendar::Civil;
 use crate::dates::civil;
 use crate::fault::PrintFault;
-use dts_base::{NoMemory, Text};
+use dts_base::Text;
 use std::alloc::{AllocError, Global};
 use utc_value::{Kind, Utc};
+
+/// Each text is shorter than this, and has room for a line feed.
+const ROOM: usize = 64;
 
 /// Writes the last `width` digits of a number.
 #[tactic(auto, unfolding(crate::specs::Spelling::digits))]
@@ -106,7 +109,7 @@ fn absolute(
     requires tdf { IsTdf tdf }
     ensures { IfOk result (λ out. out.items ≡ absolute_text (absolute_shown c tdf inaccuracy)) }
 {
-    let mut out = Vec::new(alloc);
+    let mut out = Vec::with_capacity(alloc, ROOM)?;
     push_digits(&mut out, c.year as u64, 4)?;
     push_part(&mut out, b'-', c.month)?;
     push_part(&mut out, b'-', c.day)?;
@@ -130,7 +133,7 @@ fn push_days(out: &mut Vec<u8>, days: u64) -> Result<(), AllocError>
 fn relative(alloc: Global, time: i64, inaccuracy: Option<u64>) -> Result<Vec<u8>, AllocError>
     ensures { IfOk result (λ out. out.items ≡ relative_text (relative_shown time inaccuracy)) }
 {
-    let mut out = Vec::new(alloc);
+    let mut out = Vec::with_capacity(alloc, ROOM)?;
     if time < 0 {
         out.push(b'-')?;
     }
@@ -152,14 +155,6 @@ impl From<AllocError> for PrintFault {
     }
 }
 
-impl From<NoMemory> for PrintFault {
-    ghost from_gives = { λ _ e. e ≡ NoMemoryFault };
-
-    fn from(_: NoMemory) -> PrintFault {
-        PrintFault::NoMemory
-    }
-}
-
 /// Prints a civil time.
 fn print_civil(
     alloc: Global,
@@ -172,8 +167,7 @@ fn print_civil(
     ensures text { IfOk result (λ t. t ≡ absolute_text (absolute_shown c tdf inaccuracy)) }
     ensures err { IfErr result (λ fault. fault ≡ PrintFault.NoMemory) }
 {
-    let octets = absolute(alloc, c, tdf, inaccuracy)?;
-    Ok(Text::from_slice(alloc, octets.as_slice())?)
+    Ok(Text::from_vec(absolute(alloc, c, tdf, inaccuracy)?))
 }
 
 /// Prints a length of time.
@@ -181,8 +175,7 @@ fn print_length(alloc: Global, time: i64, inaccuracy: Option<u64>) -> Result<Tex
     ensures text { IfOk result (λ t. t ≡ relative_text (relative_shown time inaccuracy)) }
     ensures err { IfErr result (λ fault. fault ≡ PrintFault.NoMemory) }
 {
-    let octets = relative(alloc, time, inaccuracy)?;
-    Ok(Text::from_slice(alloc, octets.as_slice())?)
+    Ok(Text::from_vec(relative(alloc, time, inaccuracy)?))
 }
 
 /// The text of an absolute time as clocks show it that are `tdf` minutes ahead of UTC, as

@@ -2,8 +2,7 @@ use Rattle.std.proofs.Common.{◌≡◌, ◌++◌, ◌∷◌, [], subst, ◌∙�
 use Rattle.std.proofs.lemmas.Result.{err_from_is_err_and}
 use Rattle.dts_base.specs.declared.outcome.Failed.{Failed}
 use Rattle.dts_base.specs.Told.{Told}
-use Rattle.dts_base.specs.Streams.{AppendsPart}
-use Rattle.utc_calculator.specs.Output.{Wrote}
+use Rattle.dts_base.specs.Streams.{AppendsPart, Wrote}
 use Rattle.utc_calculator.proofs.Stepping.{stops_at, goes_on, write_stops, ended}
 use Rattle.utc_calculator.proofs.calculating.answer_next.Goals as goal
 

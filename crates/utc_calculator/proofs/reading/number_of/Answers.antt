@@ -1,7 +1,8 @@
 use Rattle.std.proofs.Common.{sym, refl, subst, IsUtf8}
 use Rattle.std.proofs.lemmas.Bool.{false≢true}
 use Rattle.utc_calculator.specs.Operations.{IsPlainNumber}
-use Rattle.utc_calculator.proofs.Numbers.{signed_plain, signed_text, ok_missing, ok_found, number_read}
+use Rattle.dts_capture.proofs.Numbers.{ok_missing, ok_found}
+use Rattle.utc_calculator.proofs.Numbers.{signed_plain, signed_text, number_read}
 use Rattle.utc_calculator.proofs.reading.number_of.Goals as goal
 
 pub returns-then-not-is_plain : goal.returns-then-not-is_plain
