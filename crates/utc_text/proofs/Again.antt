@@ -132,7 +132,7 @@ end_again text (Seconds [] fraction) h = absurd (omega (arith, h.1))
 end_again text (Seconds (d ∷ ds) fraction) h = rw (seconds_again d ds fraction h) refl
 
 -- what stands behind the fields before
-inaccuracy_stops : (i : InaccuracyField) → Stops (inaccuracy_text i)
+pub inaccuracy_stops : (i : InaccuracyField) → Stops (inaccuracy_text i)
 inaccuracy_stops Unstated = record { digit = refl; point = eqb-false 0 46 refl }
 inaccuracy_stops Dashes = record { digit = refl; point = eqb-false 73 46 refl }
 inaccuracy_stops Infinite = record { digit = refl; point = eqb-false 73 46 refl }
@@ -154,7 +154,7 @@ sign_stops : (west : Bool) (rest : List ℕ) → Stops (cond west 45 43 ∷ rest
 sign_stops true rest = record { digit = refl; point = eqb-false 45 46 refl }
 sign_stops false rest = record { digit = refl; point = eqb-false 43 46 refl }
 
-tdf_stops : (t : Option TdfField) (i : InaccuracyField) → Stops (tdf_text t ++ inaccuracy_text i)
+pub tdf_stops : (t : Option TdfField) (i : InaccuracyField) → Stops (tdf_text t ++ inaccuracy_text i)
 tdf_stops None i = inaccuracy_stops i
 tdf_stops (Some t) i = sign_stops t.west _
 

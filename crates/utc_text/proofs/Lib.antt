@@ -10,3 +10,5 @@ pub mod Standing
 pub mod Reached
 pub mod AbsoluteFault
 pub mod RelativeFault
+pub mod Stood
+pub mod OnlyFault

@@ -83,21 +83,20 @@ further {stands = stands} {front = front} {text = text} {left = left} {agrees = 
       (e.1, adds other p.0 e.0);
 }
 
--- a fault that names the first wrong field
-abbrev pub Names : {F : Type 0} → Stands F → List TextField → List ℕ → TextFault → Type 0
-Names stands order text fault = (left : List ℕ) × IsFirstWrong stands order text fault.field left × (fault ≡ fault_at text fault.field left)
-
-pub named : {F : Type 0} (stands : Stands F) (order : List TextField) (text left : List ℕ) (field : TextField) (fault : TextFault) → IsFirstWrong stands order text field left → fault ≡ fault_at text field left → Names stands order text fault
-unfolding fault_at
-named stands order text left field fault wrong is =
-    let same : fault.field ≡ field = ap (λ (x : TextFault). x.field) is in
-    (left, subst (λ (x : TextField). IsFirstWrong stands order text x left) (sym same) wrong, is ∙ ap (λ (x : TextField). fault_at text x left) (sym same))
+-- A fault that names the first wrong field. In whatever way the fields before it stand, they leave the same.
+pub record Names {F : Type 0} (stands : Stands F) (order : List TextField) (text : List ℕ) (fault : TextFault) : Type 0 where
+  pub left : List ℕ
+  pub wrong : IsFirstWrong stands order text fault.field left
+  pub same : (other : F) (rest : List ℕ) → Stand stands wrong.front other text rest → rest ≡ left
+  pub is : fault ≡ fault_at text fault.field left
 
 -- the field that is not read behind those that stand
 pub unread : {F V : Type 0} {stands : Stands F} {front : List TextField} {text left : List ℕ} {agrees : F → Type 0} {o : Option (V × List ℕ)} {order : List TextField} {fault : TextFault} (field : TextField) (back : List TextField) (said : F → V) → Reached stands front text left agrees → Reads stands field left agrees said o → o ≡ None → order ≡ front ++ field ∷ back → fault ≡ fault_at text field left → Names stands order text fault
+unfolding fault_at
 unread {stands = stands} {front = front} {text = text} {left = left} {agrees = agrees} {o = o} {order = order} {fault = fault} field back said r reads none at is =
     let wrong : IsFirstWrong stands order text field left = record { front = front; back = back; order_is = at; fields = r.fields; before = r.before; wrong = stuck stands front field text left agrees said o r reads none } in
-    named stands order text left field fault wrong is
+    let its : Names stands order text (fault_at text field left) = record { left = left; wrong = wrong; same = λ other rest s. (r.same other rest s).0; is = refl } in
+    subst (λ (x : TextFault). Names stands order text x) (sym is) its
 
 -- what is made of a value that was read is no fault
 pub err_kept : {A B : Type 0} (r : Result A TextFault) (f : A → B) (d : TextFault) → reading.◌>>=◌ r (λ x. Ok (f x)) ≡ Err d → r ≡ Err d

@@ -255,6 +255,7 @@ pub fn parse_abs(text: &[u8]) -> Result<Utc, TextFault>
     ensures found { IfOk result (λ u. (f : AbsoluteFields) × IsAbsolute f × (text.now ≡ absolute_text f) × (u ≡ moment_stamp (absolute_said f))) }
     ensures only { (f : AbsoluteFields) → IsAbsolute f → text.now ≡ absolute_text f → result ≡ Ok (moment_stamp (absolute_said f)) }
     ensures first_wrong { IfErr result (λ fault. IsAbsoluteFault text.now fault) }
+    ensures only_wrong { (fault : TextFault) → IsAbsoluteFault text.now fault → result ≡ Err fault }
 {
     read_absolute(text)
 }
@@ -276,6 +277,7 @@ pub fn parse_rel(text: &[u8]) -> Result<Utc, TextFault>
     ensures found { IfOk result (λ u. (f : RelativeFields) × IsRelative f × (text.now ≡ relative_text f) × (u ≡ length_stamp (relative_said f))) }
     ensures only { (f : RelativeFields) → IsRelative f → text.now ≡ relative_text f → result ≡ Ok (length_stamp (relative_said f)) }
     ensures first_wrong { IfErr result (λ fault. IsRelativeFault text.now fault) }
+    ensures only_wrong { (fault : TextFault) → IsRelativeFault text.now fault → result ≡ Err fault }
 {
     read_relative(text)
 }
