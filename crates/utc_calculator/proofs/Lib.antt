@@ -2,3 +2,5 @@ pub mod Numbers
 pub mod Operands
 pub mod AnswerFacts
 pub mod Stepping
+pub mod Unique
+pub mod ReadRight

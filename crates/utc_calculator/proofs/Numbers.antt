@@ -60,7 +60,7 @@ plain_read {E} (first ∷ ds) r k parses plain is = read_at {E = E} first ds r k
 read_fits : {E : Type 0} (field : List ℕ) (r : Result ℤ E) (k : ℤ) → ParsesSigned w32 10 field r → r ≡ Ok k → FitsSigned w32 k
 read_fits field r k parses is = let p = OkIff-at_ok r _ _ k parses is in rw p.1 p.0.1
 
-small : (k : ℤ) → FitsSigned w32 k → mag k < 2 ^ 63
+pub small : (k : ℤ) → FitsSigned w32 k → mag k < 2 ^ 63
 small (pos n) h = omega (arith, h.sfits)
 small (negsuc n) h = omega (arith, h.sfits)
 
@@ -69,7 +69,7 @@ pub number_read : {E : Type 0} (field text : List ℕ) (r : Result ℤ E) (o : O
 number_read {E} field text (Ok k) o same plain parses is = rw is (let p = rw same at parses in (plain_read {E = E} field (Ok k) k p plain refl, read_fits {E = E} field (Ok k) k p refl))
 number_read {E} field text (Err y) o same plain parses is = rw is (λ k h. let bad = parse-signed_decimal {E = E} w32 k text (Err y) h.1 (small k h.1) (same ∙ h.0) parses in cc)
 
-small_minutes : (t : ℤ) → FitsSigned w16 t → mag t < 2 ^ 63
+pub small_minutes : (t : ℤ) → FitsSigned w16 t → mag t < 2 ^ 63
 small_minutes (pos n) h = omega (arith, h.sfits)
 small_minutes (negsuc n) h = omega (arith, h.sfits)
 
