@@ -4,3 +4,4 @@ pub mod AnswerFacts
 pub mod Stepping
 pub mod Unique
 pub mod ReadRight
+pub mod Computed
