@@ -5,3 +5,4 @@ pub mod Stepping
 pub mod Unique
 pub mod ReadRight
 pub mod Computed
+pub mod Exclusive

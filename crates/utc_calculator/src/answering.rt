@@ -1,7 +1,8 @@
 //! Answers lines.
 
 ghost use Rattle.std.specs.Prelude.{◌≡◌, ◌++◌, ◌⊎◌, ◌∷◌, [], List, ℕ, IfOk, IfErr};
-ghost use Rattle.utc_calculator.specs.Answers.{IsRefusal, Answers, HasOutcome, RefusesComputing, fault_of};
+ghost use Rattle.utc_calculator.specs.declared.cause.UtcCause.{UtcCause};
+ghost use Rattle.utc_calculator.specs.Answers.{IsRefusal, Answers, Refuses, HasOutcome, RefusesComputing, fault_of};
 ghost use Rattle.utc_calculator.specs.Operations.{RefusesReading};
 
 use crate::computing::{Unwritten, compute, line_of};
@@ -44,6 +45,11 @@ pub fn answer(alloc: Global, line: &[u8]) -> Result<Vec<u8>, AnswerFault>
         Err(cause) => Err(AnswerFault::Refused(cause)),
     }
 }
+
+/// No line that has an answer is refused. It does nothing: its contract is the law.
+pub fn no_line_is_both()
+    ensures { (line text : List ℕ) (cause : UtcCause) → Answers line text → Refuses line cause → ⊥ }
+{}
 
 // Why an outcome is not written, as the answer has it.
 fn fault_of(unwritten: Unwritten) -> AnswerFault

@@ -9,7 +9,7 @@ mod computing;
 mod operation;
 mod reading;
 
-pub use answering::{AnswerFault, answer};
+pub use answering::{AnswerFault, answer, no_line_is_both};
 pub use calculating::{Stop, calculate};
 pub use cause::UtcCause;
 pub use computing::compute;

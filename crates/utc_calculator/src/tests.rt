@@ -1,4 +1,4 @@
-use crate::answering::{AnswerFault, answer};
+use crate::answering::{AnswerFault, answer, no_line_is_both};
 use crate::calculating::{Stop, answer_at, calculate};
 use crate::{Operation, Outcome, UtcCause, compute, parse};
 use dts_base::{MemorySink, MemorySource};
@@ -379,4 +379,9 @@ fn faults_have_their_texts(rt: HostRuntime) -> Result<(), Fail> {
         "out of memory"
     );
     Ok(())
+}
+
+#[test]
+fn the_law_has_no_effect() {
+    no_line_is_both();
 }
