@@ -1,5 +1,5 @@
 -- A line that has an answer is not refused.
-use Rattle.std.proofs.Common.{◌≡◌, ◌⊎◌, inl, inr, ℕ, List, Option, Some, sym, ap, subst, ◌∙◌, arith, ℤ, ◌+ℤ◌, ◌≤ℤ◌}
+use Rattle.std.proofs.Common.{◌≡◌, ◌⊎◌, inl, inr, ℕ, ◌+◌, ◌^◌, ◌<◌, List, [], ◌∷◌, ◌++◌, length, length-append, Option, Some, sym, ap, subst, ◌∙◌, arith, ℤ, ◌+ℤ◌, ◌≤ℤ◌}
 use Rattle.std.proofs.lemmas.Int.{ints}
 use Rattle.utc_value.specs.declared.Kind.{Kind}
 use Rattle.utc_value.specs.Stamp.{Stamp}
@@ -16,7 +16,8 @@ use Rattle.utc_calculator.specs.declared.operation.Operation.TheVariants as op
 use Rattle.utc_calculator.specs.declared.operation.Outcome.{Outcome}
 use Rattle.utc_calculator.specs.declared.operation.Outcome.TheVariants as out
 use Rattle.utc_calculator.specs.Results.{YieldsTime, YieldsPoints, YieldsOrder, YieldsOctets, Yields, IsTextOfKind, IsTextOf, Shows, HasNoText, RefusesShowing}
-use Rattle.utc_calculator.specs.Answers.{Answers, Refuses}
+use Rattle.utc_calculator.specs.Answers.{Answers, Refuses, IsAnswered, RefusesLine, AnswerEach, AreAnswered}
+use Rattle.utc_calculator.specs.Output.{RefusesNone}
 use Rattle.utc_calculator.proofs.Unique.{Spells-unique}
 use Rattle.utc_calculator.proofs.ReadRight.{reading_right}
 use Rattle.utc_calculator.proofs.Computed.{stated_unique, computed}
@@ -140,3 +141,20 @@ not_both line text c answer (inr (inl refused)) =
 not_both line text c answer (inr (inr refused)) =
     let same = Spells-unique line refused.has.operation answer.has.operation refused.has.spelled answer.has.spelled in
     written answer.outcome text answer.shown (unwritten answer.has.operation answer.outcome refused.outcome answer.has.yields (rw same at refused.has.yields) refused.refused)
+
+-- each of the lines is answered
+each_at : (front : List (List ℕ)) (line : List ℕ) (rest : List (List ℕ)) (text : List ℕ) → AnswerEach (front ++ line ∷ rest) text → (answer : List ℕ) × IsAnswered line answer
+each_at [] line rest text (answer, more, is, each, all) = (answer, is)
+each_at (first ∷ front) line rest text (answer, more, is, each, all) = each_at front line rest more each
+
+-- an answered line with a number that lines have is not refused at it
+not_refused : (n : ℕ) (line text : List ℕ) (c : UtcCause) → n < 2 ^ 32 → IsAnswered line text → RefusesLine n line c → ⊥
+not_refused n line text c few is (inl (many, at)) = omega (arith, few, many)
+not_refused n line text c few is (inr (inl (below, long, at))) = omega (arith, long, is.short)
+not_refused n line text c few is (inr (inr (below, short, refuses))) = not_both line text c is.answers refuses
+
+-- no line of lines that all have an answer is refused
+pub none_refused : (lines : List (List ℕ)) (text : List ℕ) → AreAnswered lines text → RefusesNone lines
+none_refused lines text are = λ front line rest c all refuses.
+    let at = each_at front line rest text (subst (λ ls. AnswerEach ls text) all are.each) in
+    not_refused (length front + 1) line at.0 c (omega (arith, are.few, ap length all, length-append front (line ∷ rest))) at.1 refuses

@@ -2,8 +2,9 @@
 
 ghost use Rattle.std.specs.Prelude.{◌≡◌, ◌++◌, ◌⊎◌, ◌∷◌, [], List, ℕ, IfOk, IfErr};
 ghost use Rattle.utc_calculator.specs.declared.cause.UtcCause.{UtcCause};
-ghost use Rattle.utc_calculator.specs.Answers.{IsRefusal, Answers, Refuses, HasOutcome, RefusesComputing, fault_of};
+ghost use Rattle.utc_calculator.specs.Answers.{AreAnswered, IsRefusal, Answers, Refuses, HasOutcome, RefusesComputing, fault_of};
 ghost use Rattle.utc_calculator.specs.Operations.{RefusesReading};
+ghost use Rattle.utc_calculator.specs.Output.{RefusesNone};
 
 use crate::computing::{Unwritten, compute, line_of};
 use crate::reading::parse;
@@ -46,9 +47,11 @@ pub fn answer(alloc: Global, line: &[u8]) -> Result<Vec<u8>, AnswerFault>
     }
 }
 
-/// No line that has an answer is refused. It does nothing: its contract is the law.
+/// No line that has an answer is refused, and no line among lines that all have one. It does nothing: its contract
+/// is the law.
 pub fn no_line_is_both()
-    ensures { (line text : List ℕ) (cause : UtcCause) → Answers line text → Refuses line cause → ⊥ }
+    ensures line { (line text : List ℕ) (cause : UtcCause) → Answers line text → Refuses line cause → ⊥ }
+    ensures lines { (lines : List (List ℕ)) (text : List ℕ) → AreAnswered lines text → RefusesNone lines }
 {}
 
 // Why an outcome is not written, as the answer has it.
