@@ -40,7 +40,7 @@ unlike : (a b : Stamp) (fault : UtcFault) → a.kind ≡ b.kind → RefusesUnlik
 unlike a b Kinds e refused = refused e
 unlike a b fault e refused = refused
 
-absolute_or_relative : (k : Kind) → k ≡ Absolute → k ≡ Relative → ⊥
+pub absolute_or_relative : (k : Kind) → k ≡ Absolute → k ≡ Relative → ⊥
 absolute_or_relative k h l = cc
 
 sum_computed : (a b r : Stamp) (fault : UtcFault) → Adds a b r → IsInRange r → RefusesSum a b fault → ⊥

@@ -6,3 +6,4 @@ pub mod Unique
 pub mod ReadRight
 pub mod Computed
 pub mod Exclusive
+pub mod OneCause

@@ -39,14 +39,14 @@ no_operand (Minutes t) h = no_minutes t h.1 h.0
 no_operand (Octets octets) h = cc
 
 -- a field that is right as an operand is not wrong
-next_right : (x : Operand) (field : List ℕ) (fields : List (List ℕ)) (c : UtcCause) → Reads field x → IsNextWrong (kind_of x) (field ∷ fields) c → ⊥
+pub next_right : (x : Operand) (field : List ℕ) (fields : List (List ℕ)) (c : UtcCause) → Reads field x → IsNextWrong (kind_of x) (field ∷ fields) c → ⊥
 next_right x [] fields c h wrong = no_operand x h
 next_right (Time s) (octet ∷ octets) fields c h (fault, e, _) = let both = sym h ∙ e in cc
 next_right (Number k) (octet ∷ octets) fields c h (never, _) = never k h
 next_right (Minutes t) (octet ∷ octets) fields c h (never, _) = never t h
 next_right (Octets read) (octet ∷ octets) fields c h (never, _) = never read h
 
-all_right : (xs : List Operand) (fields : List (List ℕ)) (c : UtcCause) → ReadEach fields xs → IsFirstWrong (map kind_of xs) fields c → ⊥
+pub all_right : (xs : List Operand) (fields : List (List ℕ)) (c : UtcCause) → ReadEach fields xs → IsFirstWrong (map kind_of xs) fields c → ⊥
 all_right [] [] c h wrong = wrong
 all_right [] (field ∷ fields) c h wrong = h
 all_right (x ∷ xs) [] c h wrong = h

@@ -54,6 +54,11 @@ pub fn no_line_is_both()
     ensures lines { (lines : List (List ℕ)) (text : List ℕ) → AreAnswered lines text → RefusesNone lines }
 {}
 
+/// A refused line has one cause. It does nothing: its contract is the law.
+pub fn one_cause()
+    ensures { (line : List ℕ) (c d : UtcCause) → Refuses line c → Refuses line d → c ≡ d }
+{}
+
 // Why an outcome is not written, as the answer has it.
 fn fault_of(unwritten: Unwritten) -> AnswerFault
     ensures { result ≡ fault_of unwritten }

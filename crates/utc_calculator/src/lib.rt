@@ -9,7 +9,7 @@ mod computing;
 mod operation;
 mod reading;
 
-pub use answering::{AnswerFault, answer, no_line_is_both};
+pub use answering::{AnswerFault, answer, no_line_is_both, one_cause};
 pub use calculating::{Stop, calculate};
 pub use cause::UtcCause;
 pub use computing::compute;

@@ -1,4 +1,4 @@
-use crate::answering::{AnswerFault, answer, no_line_is_both};
+use crate::answering::{AnswerFault, answer, no_line_is_both, one_cause};
 use crate::calculating::{Stop, answer_at, calculate};
 use crate::{Operation, Outcome, UtcCause, compute, parse};
 use dts_base::{MemorySink, MemorySource};
@@ -382,6 +382,7 @@ fn faults_have_their_texts(rt: HostRuntime) -> Result<(), Fail> {
 }
 
 #[test]
-fn the_law_has_no_effect() {
+fn the_laws_have_no_effect() {
     no_line_is_both();
+    one_cause();
 }
