@@ -15,7 +15,7 @@ use Rattle.utc_calculator.specs.declared.cause.UtcCause.{UtcCause}
 use Rattle.utc_calculator.specs.declared.cause.UtcCause.TheVariants as cause
 use Rattle.utc_calculator.specs.declared.operation.Operation.{Operation}
 use Rattle.utc_calculator.specs.declared.operation.Operation.TheVariants as op
-use Rattle.utc_calculator.specs.Operations.{Operand, Octets, OperandKind, Times, Numbers, MinutesKind, OctetsKind, kind_of, operands_of, HasOperand, IsWrong, IsNextWrong, IsLeftOver, IsFirstWrong, IsUnknown, RefusesOctets, HasWrongOperand, HasWrongOctets, RefusesFields, RefusesReading}
+use Rattle.utc_calculator.specs.Operations.{Operand, Octets, OperandKind, TimeKind, NumberKind, MinutesKind, OctetsKind, kind_of, operands_of, HasOperand, IsWrong, IsNextWrong, IsLeftOver, IsFirstWrong, IsUnknown, RefusesOctets, HasWrongOperand, HasWrongOctets, RefusesFields, RefusesReading}
 use Rattle.utc_calculator.specs.Results.{RefusesRoutine}
 use Rattle.utc_calculator.specs.Answers.{RefusesComputing, RefusesPrinting, Refuses}
 use Rattle.utc_calculator.proofs.Operands.{any}
@@ -31,8 +31,8 @@ fault_is e f h = cc
 
 -- a field that is wrong as an operand of a kind has one cause
 one_wrong : (kind : OperandKind) (field : List ℕ) (c d : UtcCause) → IsWrong kind field c → IsWrong kind field d → c ≡ d
-one_wrong Times field c d (fault, e, is) (other, f, at) = is ∙ ap (λ (x : TextFault). cause.Text x) (fault_is fault other (sym e ∙ f)) ∙ sym at
-one_wrong Numbers field c d h k = h.1 ∙ sym k.1
+one_wrong TimeKind field c d (fault, e, is) (other, f, at) = is ∙ ap (λ (x : TextFault). cause.Text x) (fault_is fault other (sym e ∙ f)) ∙ sym at
+one_wrong NumberKind field c d h k = h.1 ∙ sym k.1
 one_wrong MinutesKind field c d h k = h.1 ∙ sym k.1
 one_wrong OctetsKind field c d h k = h.1 ∙ sym k.1
 

@@ -14,7 +14,7 @@ use Rattle.utc_text.specs.Fields.{year_at, two_digits, days_at, digits_at}
 use Rattle.utc_calculator.specs.declared.cause.UtcCause.{UtcCause}
 use Rattle.utc_calculator.specs.declared.operation.Operation.{Operation}
 use Rattle.utc_calculator.specs.declared.operation.Operation.TheVariants as op
-use Rattle.utc_calculator.specs.Operations.{Operand, Time, Number, Minutes, Octets, OperandKind, Times, OctetsKind, kind_of, word_of, operands_of, time_of, Reads, ReadEach, IsOfTimestamp, Spells, IsNextWrong, IsFirstWrong, RefusesOctets, RefusesFields, RefusesReading}
+use Rattle.utc_calculator.specs.Operations.{Operand, Time, Number, Minutes, Octets, OperandKind, TimeKind, OctetsKind, kind_of, word_of, operands_of, time_of, Reads, ReadEach, IsOfTimestamp, Spells, IsNextWrong, IsFirstWrong, RefusesOctets, RefusesFields, RefusesReading}
 use Rattle.utc_calculator.proofs.Operands.{any}
 use Rattle.utc_calculator.proofs.Unique.{octets_version, octets_tdf, same_kinds, same_operands}
 
@@ -61,7 +61,7 @@ octets_right a (bytes.Version found) h refused = refused.1 (rw (refused.0, octet
 octets_right a (bytes.Tdf found) h refused = refused.2 (rw (octets_version a h, refused.0, octets_tdf a h) ((allowed_by_version a.kind a.tdf).0 h.tdf_fits))
 
 -- the other operations begin with a time
-no_octets : (kinds : List OperandKind) → Times ∷ kinds ≡ OctetsKind ∷ [] → ⊥
+no_octets : (kinds : List OperandKind) → TimeKind ∷ kinds ≡ OctetsKind ∷ [] → ⊥
 no_octets kinds e = cc
 
 -- an operation with the word `text` is one of a timestamp's octets

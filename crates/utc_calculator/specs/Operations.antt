@@ -23,14 +23,14 @@ pub data Operand : Type 0 where
   Octets : List ℕ → Operand
 
 pub data OperandKind : Type 0 where
-  Times : OperandKind
-  Numbers : OperandKind
+  TimeKind : OperandKind
+  NumberKind : OperandKind
   MinutesKind : OperandKind
   OctetsKind : OperandKind
 
 abbrev pub kind_of : Operand → OperandKind
-kind_of (Time s) = Times
-kind_of (Number k) = Numbers
+kind_of (Time s) = TimeKind
+kind_of (Number k) = NumberKind
 kind_of (Minutes t) = MinutesKind
 kind_of (Octets octets) = OctetsKind
 
@@ -103,8 +103,8 @@ Spells line o = (fields : List (List ℕ)) × (fields_of line ≡ word_of o ∷ 
 
 -- why a field with octets is not right as an operand of that kind
 abbrev pub IsWrong : OperandKind → List ℕ → UtcCause → Type 0
-IsWrong Times field c = (fault : TextFault) × (time_of field ≡ Err fault) × (c ≡ cause.Text fault)
-IsWrong Numbers field c = ((k : ℤ) → Reads field (Number k) → ⊥) × (c ≡ cause.Number)
+IsWrong TimeKind field c = (fault : TextFault) × (time_of field ≡ Err fault) × (c ≡ cause.Text fault)
+IsWrong NumberKind field c = ((k : ℤ) → Reads field (Number k) → ⊥) × (c ≡ cause.Number)
 IsWrong MinutesKind field c = ((t : ℤ) → Reads field (Minutes t) → ⊥) × (c ≡ cause.Number)
 IsWrong OctetsKind field c = ((octets : List ℕ) → Reads field (Octets octets) → ⊥) × (c ≡ cause.Hex)
 

@@ -7,7 +7,7 @@ ghost use Rattle.hex.specs.Hex.{decode_sized};
 ghost use Rattle.utc_value.specs.Octets.{octets_of};
 ghost use Rattle.utc_value.specs.Stamp.{IsInRange};
 ghost use Rattle.dts_capture.specs.Fields.{fields_of};
-ghost use Rattle.utc_calculator.specs.Operations.{Time, Number, Minutes, Octets, Times, Numbers, MinutesKind, OctetsKind, Reads, ReadEach, Spells, IsOfTimestamp, IsNextWrong, IsLeftOver, IsFirstWrong, HasOperand, HasWrongOctets, RefusesFields, RefusesReading, operands_of, IsPlainNumber, is_relative_form, time_of, word_of};
+ghost use Rattle.utc_calculator.specs.Operations.{Time, Number, Minutes, Octets, TimeKind, NumberKind, MinutesKind, OctetsKind, Reads, ReadEach, Spells, IsOfTimestamp, IsNextWrong, IsLeftOver, IsFirstWrong, HasOperand, HasWrongOctets, RefusesFields, RefusesReading, operands_of, IsPlainNumber, is_relative_form, time_of, word_of};
 
 use crate::{Operation, UtcCause};
 use dts_capture::Fields;
@@ -108,7 +108,7 @@ fn time_of(text: &[u8]) -> Result<Utc, TextFault>
 // Takes the next field, where it is a time.
 fn time(fields: &mut Fields) -> Result<Utc, UtcCause>
     ensures ok { IfOk result (λ u. HasOperand fields.old (Time u) fields.new) }
-    ensures err { IfErr result (IsNextWrong Times fields.old) }
+    ensures err { IfErr result (IsNextWrong TimeKind fields.old) }
 {
     time_of(next_field(fields)?).map_err(UtcCause::Text)
 }
@@ -140,7 +140,7 @@ fn minutes_of(field: &[u8]) -> Option<i16>
 // Takes the next field, where it is a number of 32 bits.
 fn number(fields: &mut Fields) -> Result<i32, UtcCause>
     ensures ok { IfOk result (λ k. HasOperand fields.old (Number k) fields.new) }
-    ensures err { IfErr result (IsNextWrong Numbers fields.old) }
+    ensures err { IfErr result (IsNextWrong NumberKind fields.old) }
 {
     number_of(next_field(fields)?).ok_or(UtcCause::Number)
 }
@@ -164,7 +164,7 @@ fn octets(fields: &mut Fields) -> Result<[u8; 16], UtcCause>
 // A time, and no more.
 fn one_time(mut fields: Fields) -> Result<Utc, UtcCause>
     ensures ok { IfOk result (λ a. ReadEach fields.entry (Time a ∷ [])) }
-    ensures err { IfErr result (IsFirstWrong (Times ∷ []) fields.entry) }
+    ensures err { IfErr result (IsFirstWrong (TimeKind ∷ []) fields.entry) }
 {
     let a = time(&mut fields)?;
     end(&mut fields)?;
@@ -174,7 +174,7 @@ fn one_time(mut fields: Fields) -> Result<Utc, UtcCause>
 // Two times, and no more.
 fn two_times(mut fields: Fields) -> Result<(Utc, Utc), UtcCause>
     ensures ok { IfOk result (λ both. ReadEach fields.entry (Time both.0 ∷ Time both.1 ∷ [])) }
-    ensures err { IfErr result (IsFirstWrong (Times ∷ Times ∷ []) fields.entry) }
+    ensures err { IfErr result (IsFirstWrong (TimeKind ∷ TimeKind ∷ []) fields.entry) }
 {
     let a = time(&mut fields)?;
     let b = time(&mut fields)?;
@@ -185,7 +185,7 @@ fn two_times(mut fields: Fields) -> Result<(Utc, Utc), UtcCause>
 // A time and a number, and no more.
 fn time_and_number(mut fields: Fields) -> Result<(Utc, i32), UtcCause>
     ensures ok { IfOk result (λ both. ReadEach fields.entry (Time both.0 ∷ Number both.1 ∷ [])) }
-    ensures err { IfErr result (IsFirstWrong (Times ∷ Numbers ∷ []) fields.entry) }
+    ensures err { IfErr result (IsFirstWrong (TimeKind ∷ NumberKind ∷ []) fields.entry) }
 {
     let a = time(&mut fields)?;
     let k = number(&mut fields)?;
@@ -196,7 +196,7 @@ fn time_and_number(mut fields: Fields) -> Result<(Utc, i32), UtcCause>
 // A time and a number of minutes, and no more.
 fn time_and_minutes(mut fields: Fields) -> Result<(Utc, i16), UtcCause>
     ensures ok { IfOk result (λ both. ReadEach fields.entry (Time both.0 ∷ Minutes both.1 ∷ [])) }
-    ensures err { IfErr result (IsFirstWrong (Times ∷ MinutesKind ∷ []) fields.entry) }
+    ensures err { IfErr result (IsFirstWrong (TimeKind ∷ MinutesKind ∷ []) fields.entry) }
 {
     let a = time(&mut fields)?;
     let t = minutes(&mut fields)?;
