@@ -109,3 +109,25 @@ fn is_plain(field: &[u8]) -> bool
         _ => true,
     }
 }
+
+#[cfg(test)]
+mod tests {
+    use super::*;
+    use std::test::Fail;
+
+    #[test]
+    fn fields_are_cut_at_each_space(rt: HostRuntime) -> Result<(), Fail> {
+        let mut fields = Fields::new(b"read  07 7 8 9");
+        assert_eq!(rt; fields.next(), Some(b"read".as_slice()));
+        assert_eq!(rt; fields.next(), Some(b"".as_slice()));
+        assert_eq!(rt; fields.number(9), None, "a leading zero");
+        assert_eq!(rt; fields.number(7), Some(7));
+        assert_eq!(rt; fields.number(7), None, "above the greatest");
+        assert_eq!(rt; fields.count(), Some(9));
+        assert_eq!(rt; fields.next(), None);
+        let mut empty = Fields::new(b"");
+        assert_eq!(rt; empty.next(), Some(b"".as_slice()));
+        assert_eq!(rt; empty.count(), None);
+        Ok(())
+    }
+}
