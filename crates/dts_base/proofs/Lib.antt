@@ -1,2 +1,5 @@
 pub mod ToldFacts
 pub mod SliceFacts
+pub mod Decimals
+pub mod AddressFacts
+pub mod ScriptFacts

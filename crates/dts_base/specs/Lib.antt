@@ -3,4 +3,9 @@ pub mod Told
 pub mod Streams
 pub mod Numbers
 pub mod Links
+pub mod Calls
+pub mod Scripts
 pub mod Memory
+pub mod Names
+pub mod Addresses
+pub mod Cutting

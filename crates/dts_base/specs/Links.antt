@@ -1,6 +1,6 @@
 -- What a link tells: its arrivals that are left, and its lists. Our own choice.
 use Rattle.std.specs.Prelude.{◌≡◌, ℕ, ◌<◌, ◌≤◌, min, List, [], ◌∷◌, ◌++◌, length, take, drop, nat_le, if◌then◌else◌, Option, Some, None}
-use Rattle.dts_base.specs.declared.link.Address.{Address}
+use Rattle.dts_base.specs.declared.address.Address.{Address}
 use Rattle.dts_base.specs.declared.link.PeerKind.{PeerKind}
 use Rattle.dts_base.specs.declared.link.Place.{Place}
 use Rattle.dts_base.specs.declared.link.Served.{Served}

@@ -1,5 +1,5 @@
 -- Numbers that come from outside, one a call. Our own choice.
-use Rattle.std.specs.Prelude.{◌≡◌, ℕ, List, [], ◌∷◌}
+use Rattle.std.specs.Prelude.{◌≡◌, ℕ, ◌≤◌, List, [], ◌∷◌, All}
 
 -- the numbers that are left, and the one that was given last, which is 0 before the first
 pub record Script : Type 0 where
@@ -13,3 +13,8 @@ Gives answer (x ∷ xs) last new = (answer ≡ x) × (new ≡ record { left = xs
 
 abbrev pub GivesNext : ℕ → Script → Script → Type 0
 GivesNext answer old new = Gives answer old.left old.last new
+
+-- neither the last number nor one that is left is above the bound
+pub record IsBounded (bound : ℕ) (script : Script) : Type 0 where
+  pub left : All (λ n. n ≤ bound) script.left
+  pub last : script.last ≤ bound

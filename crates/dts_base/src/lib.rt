@@ -2,9 +2,12 @@
 //! whose clauses say what each call gives, leaves and may fail for, and the types that every crate shares.
 #![tactic(auto)]
 
+mod address;
 mod bytes;
 mod interval;
+mod laws;
 mod link;
+mod memory_calls;
 mod memory_link;
 mod memory_numbers;
 mod memory_sink;
@@ -13,18 +16,22 @@ mod numbers;
 mod outcome;
 mod sink;
 mod source;
+mod wire;
 
+pub use address::Address;
 pub use bytes::{Bytes, Text};
 pub use interval::Interval;
-pub use link::{Address, Arrival, Link, PeerKind, Place, Scripted, Sent, Served};
+pub use laws::{fields_differ_by_name, one_address};
+pub use link::{Arrival, Link, PeerKind, Place, Scripted, Sent, Served};
 pub use memory_link::MemoryLink;
 pub use memory_numbers::{MemoryOscillator, MemoryWords};
 pub use memory_sink::MemorySink;
 pub use memory_source::MemorySource;
-pub use numbers::{Oscillator, Words};
+pub use numbers::{MAX_OSC, Oscillator, Words};
 pub use outcome::{Failed, NoMemory};
 pub use sink::{Sink, write_all};
 pub use source::Source;
+pub use wire::{Field, Refused, State, WireCause};
 
 #[cfg(test)]
 mod tests;

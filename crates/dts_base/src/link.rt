@@ -1,19 +1,10 @@
-ghost use Rattle.std.specs.Prelude.{◌≡◌, ℕ, ◌<◌, ◌≤◌, List, Option, Result, OnOk, OnErr, MatchResult, length};
+ghost use Rattle.std.specs.Prelude.{ℕ, ◌<◌, ◌≤◌, List, Option, OnOk, OnErr, length};
 ghost use Rattle.dts_base.specs.declared.link.Scripted.{Scripted};
 ghost use Rattle.dts_base.specs.Causes.{HasCause};
 ghost use Rattle.dts_base.specs.Told.{Told};
 ghost use Rattle.dts_base.specs.Links.{Lists, Kept, IsSame, AddsPlace, AddsServed, AddsSent, AddsClosed, Fits, Polls};
 
-use crate::{Bytes, Failed};
-
-/// An IPv4 address and a port.
-#[derive(Clone, Copy, Debug, PartialEq, Eq)]
-pub struct Address {
-    /// The four octets, the first one first.
-    pub ip: [u8; 4],
-    /// The port.
-    pub port: u16,
-}
+use crate::{Address, Bytes, Failed};
 
 /// How a peer is reached.
 #[derive(Clone, Copy, Debug, PartialEq, Eq)]
@@ -40,7 +31,7 @@ pub enum Arrival {
 }
 
 /// One arrival of a link's script.
-#[derive(Debug, Drop)]
+#[derive(Debug, PartialEq, Eq, Drop)]
 pub enum Scripted {
     /// Nothing comes.
     Nothing,
@@ -55,7 +46,7 @@ pub enum Scripted {
 }
 
 /// A piece that was sent.
-#[derive(Debug, Drop)]
+#[derive(Debug, PartialEq, Eq, Drop)]
 pub struct Sent {
     /// To whom.
     pub peer: u32,

@@ -1,8 +1,10 @@
 ghost use Rattle.std.specs.Prelude.{◌≡◌, ◌<◌, ◌≤◌, [], length, Some, IfOk, IsErr};
+ghost use Rattle.dts_base.specs.Calls.{IsListed, after_call, Starves};
 ghost use Rattle.dts_base.specs.Causes.{HasCause};
 ghost use Rattle.dts_base.specs.Told.{Told};
 ghost use Rattle.dts_base.specs.Streams.{Writes};
 
+use crate::memory_calls::NumberedCalls;
 use crate::{Failed, NoMemory, Sink};
 use std::alloc::Global;
 
@@ -12,25 +14,23 @@ use std::alloc::Global;
 #[derive(Debug, Drop)]
 pub struct MemorySink {
     written: Vec<u8>,
-    fail: Vec<u64>,
-    next_call: u64,
+    calls: NumberedCalls,
     faults: u64,
     starved: u64,
 }
 
 impl MemorySink {
-    ghost use Rattle.dts_base.specs.Memory.{sink_written};
+    ghost use Rattle.dts_base.specs.Memory.{sink_written, sink_calls, sink_faults, sink_starved};
 
     /// An empty sink that fails at the calls of these numbers.
     pub fn new(alloc: Global, fail: &[u64]) -> Result<MemorySink, NoMemory>
         ensures written { IfOk result (λ s. sink_written s ≡ []) }
-        ensures fail { IfOk result (λ s. (s.fail.items ≡ fail.now) × (s.next_call ≡ 1)) }
-        ensures faults { IfOk result (λ s. (s.faults ≡ 0) × (s.starved ≡ 0)) }
+        ensures calls { IfOk result (λ s. sink_calls s ≡ record { next = 1; fail = fail.now }) }
+        ensures faults { IfOk result (λ s. (sink_faults s ≡ 0) × (sink_starved s ≡ 0)) }
     {
         Ok(MemorySink {
             written: Vec::new(alloc),
-            fail: fail.to_vec(alloc)?,
-            next_call: 1,
+            calls: NumberedCalls::new(alloc, fail)?,
             faults: 0,
             starved: 0,
         })
@@ -45,35 +45,32 @@ impl MemorySink {
 
     /// How often a call failed for want of memory.
     pub fn starved(&self) -> u64
-        ensures starved { result ≡ self.now.starved }
+        ensures starved { result ≡ sink_starved self.now }
     {
         self.starved
     }
 }
 
 impl Sink for MemorySink {
-    ghost use Rattle.dts_base.specs.Memory.{sink_written, SinkFails};
-    ghost use Rattle.dts_base.specs.Causes.{Rose};
-    ghost use Rattle.std.specs.Prelude.{OnErr, ◌⊎◌, IsOk};
+    ghost use Rattle.dts_base.specs.Memory.{sink_written, sink_calls, sink_faults, sink_starved};
 
     ghost written = { λ s. Some (sink_written s) };
 
-    ghost faults = { λ s. s.faults };
+    ghost faults = { sink_faults };
 
     fn write(&mut self, piece: &[u8]) -> Result<usize, Failed>
         ensures count { IfOk result (λ n. n ≤ length piece.now) }
         ensures progress { IfOk result (λ n. 0 < length piece.now → 0 < n) }
         ensures told { Told (Some (sink_written self.old)) (Some (sink_written self.new)) (Writes result piece.now) }
-        ensures cause { HasCause self.old.faults self.new.faults result }
+        ensures cause { HasCause (sink_faults self.old) (sink_faults self.new) result }
 
         // It takes the whole piece, or it is one of the calls that are to fail, or memory was missing.
         ensures whole { IfOk result (λ n. n ≡ length piece.now) }
-        ensures fails { SinkFails self.old → IsErr result }
-        ensures failed { OnErr result (SinkFails self.old ⊎ Rose self.old.starved self.new.starved) }
+        ensures listed { IsListed (sink_calls self.old) → IsErr result }
+        ensures calls { sink_calls self.new ≡ after_call (sink_calls self.old) }
+        ensures starved { Starves (sink_calls self.old) result (sink_starved self.old) (sink_starved self.new) }
     {
-        let call = self.next_call;
-        self.next_call = call.saturating_add(1);
-        if self.fail.contains(&call) {
+        if self.calls.count() {
             self.faults = self.faults.saturating_add(1);
             return Err(Failed);
         }

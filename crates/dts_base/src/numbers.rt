@@ -1,6 +1,9 @@
-ghost use Rattle.std.specs.Prelude.{◌^◌, ◌≤◌, Option};
+ghost use Rattle.std.specs.Prelude.{◌≤◌, Option};
 ghost use Rattle.dts_base.specs.Told.{Told};
 ghost use Rattle.dts_base.specs.Numbers.{Script, GivesNext};
+
+/// The greatest reading of an oscillator: 2^60 units of 100 ns, over 3,600 years.
+pub const MAX_OSC: u64 = 1 << 60;
 
 /// An oscillator: a count of units of 100 ns whose beginning is left open.
 pub trait Oscillator {
@@ -9,7 +12,7 @@ pub trait Oscillator {
 
     /// One reading, at most 2^60.
     fn read(&mut self) -> u64
-        ensures bound { result ≤ 2 ^ 60 }
+        ensures bound { result ≤ MAX_OSC }
         ensures told { Told (readings self.old) (readings self.new) (GivesNext result) };
 }
 

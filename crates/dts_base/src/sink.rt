@@ -1,4 +1,4 @@
-ghost use Rattle.std.specs.Prelude.{◌≡◌, ℕ, ◌<◌, ◌≤◌, ◌++◌, List, Option, IfOk, OnOk, OnErr, length};
+ghost use Rattle.std.specs.Prelude.{ℕ, ◌<◌, ◌≤◌, List, Option, IfOk, OnOk, OnErr, length};
 ghost use Rattle.dts_base.specs.Causes.{HasCause};
 ghost use Rattle.dts_base.specs.Told.{Told};
 ghost use Rattle.dts_base.specs.Streams.{Writes, Wrote, AppendsPart};

@@ -1,8 +1,8 @@
 ghost use Rattle.std.specs.Prelude.{◌≡◌, None};
 ghost use Rattle.std.specs.Io.{ReadsAtMost};
 
+use crate::interrupted::read_again;
 use dts_base::{Failed, Source};
-use std::io::Read;
 use std::rt::Files;
 use std::{fs, io};
 
@@ -40,10 +40,10 @@ fn read_open<R: Files>(
     ensures count { ReadsAtMost result buf.new }
 {
     match file {
-        Some(file) => file.read(buf),
+        Some(file) => read_again(file, buf),
         None => {
             let mut opened = fs::open(rt, path)?;
-            let count = opened.read(buf)?;
+            let count = read_again(&mut opened, buf)?;
             *file = Some(opened);
             Ok(count)
         }

@@ -1,5 +1,6 @@
 ghost use Rattle.std.specs.Prelude.{◌≡◌, None};
 
+use crate::interrupted::write_again;
 use dts_base::{Failed, Sink};
 use std::io::Write;
 
@@ -26,7 +27,7 @@ impl<W: Write> Sink for WriterSink<W> {
 
     // A writer that takes nothing of a piece has failed.
     fn write(&mut self, piece: &[u8]) -> Result<usize, Failed> {
-        match self.writer.write(piece) {
+        match write_again(&mut self.writer, piece) {
             Ok(count) if count > 0 || piece.is_empty() => Ok(count),
             _ => {
                 self.faults = self.faults.saturating_add(1);

@@ -1,4 +1,4 @@
-use Rattle.std.proofs.Common.{◌≡◌, ℕ, ◌++◌, List, [], take, drop, refl, sym, ap, ◌∙◌, arith, append_assoc}
+use Rattle.std.proofs.Common.{◌≡◌, ℕ, ◌++◌, List, [], take, drop, refl, sym, ap, ◌∙◌, append_assoc}
 use Rattle.std.proofs.lemmas.List.{take-append-drop, append-nil, nil_from_length}
 use Rattle.std.proofs.lemmas.Bool.{eqb-true}
 use Rattle.std.proofs.lemmas.Result.{err_from_is_err_and}
@@ -30,12 +30,12 @@ returns-clause-whole g c =
 pub loop-rest-init : goal.loop-rest-init
 loop-rest-init g c = record {
   told = Told-same _ _ (λ x. ([], refl, sym (append-nil x)));
-  later = omega arith;
+  kept = refl;
 }
 
 pub loop-rest-preserved : goal.loop-rest-preserved
 loop-rest-preserved g c = record {
   told = Told-then _ _ _ _ _ _ c.loop-rest.invariant.told c.in_ok-taken.ensures.told
       (λ old mid new h w. appended_more _ c.loop-rest.rest.now _ old mid new c.in_ok-taken.taken (rest_from c.in_ok-taken.taken c.loop-rest.rest.now) h w);
-  later = omega arith;
+  kept = c.in_ok-taken.ensures.cause.kept ∙ c.loop-rest.invariant.kept;
 }

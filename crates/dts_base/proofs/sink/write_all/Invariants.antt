@@ -1,4 +1,4 @@
-use Rattle.std.proofs.Common.{◌≡◌, ℕ, ◌≤◌, ◌++◌, List, length}
+use Rattle.std.proofs.Common.{◌≡◌, ℕ, ◌++◌, List, length}
 use Rattle.dts_base.specs.Told.{Told}
 use Rattle.dts_base.proofs.sink.write_all.Given as goal
 
@@ -9,7 +9,7 @@ Appended piece rest old new = (part : List ℕ) × (piece ≡ part ++ rest) × (
 abbrev pub invariant-loop-rest : goal.invariant-loop-rest
 invariant-loop-rest g l = record {
   told : Told (g.S.Sink.written l.fn.sink) (g.S.Sink.written l.sink) (Appended l.fn.piece l.rest);
-  later : g.S.Sink.faults l.fn.sink ≤ g.S.Sink.faults l.sink;
+  kept : g.S.Sink.faults l.sink ≡ g.S.Sink.faults l.fn.sink;
 }
 
 abbrev pub decreases-loop-rest : goal.decreases-loop-rest

@@ -11,7 +11,7 @@ pub returns-clause-told : goal.returns-clause-told
 returns-clause-told c =
     let at = c.args.self.now.at in
     let script = c.args.self.now.script.items in
-    let left = rest_from at c.deref-2.result.now ∙ ap (drop at) c.deref-2.ensures.value in
+    let left = rest_from at c.deref.result.now ∙ ap (drop at) c.deref.ensures.value in
     let n = c.copy_front-count.result in (
       _,
       refl,
