@@ -1,0 +1,5 @@
+pub mod Numbers
+pub mod Strings
+pub mod Reading
+pub mod Stubs
+pub mod Writing
