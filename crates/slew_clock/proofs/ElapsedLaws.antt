@@ -1,8 +1,10 @@
 -- Laws of elapsed time.
-use Rattle.std.proofs.Common.{◌≡◌, ℕ, ◌+◌, ◌/◌, ◌%◌, ◌≤◌, min, ap, arith}
+use Rattle.std.proofs.Common.{◌≡◌, ℕ, ◌+◌, ◌*◌, ◌/◌, ◌%◌, ◌≤◌, min, pos, ap, arith}
+use Rattle.std.specs.Int.{abs_diff}
+use Rattle.std.proofs.lemmas.Int.{ints}
 use Rattle.std.proofs.Math.Nat.{mul-le-mul_left, mul-le-mul_right, zero-mul}
 use Rattle.slew_clock.specs.declared.rates.Rates.{Rates}
-use Rattle.slew_clock.specs.Elapsed.{drift_of, most, least}
+use Rattle.slew_clock.specs.Elapsed.{drift_of, most, least, MayElapse}
 
 -- no drift without time
 pub drift-zero : (r : Rates) → drift_of r 0 ≡ 0
@@ -31,3 +33,11 @@ most_from r x = omega arith
 
 pub most_rises : (r : Rates) (x y : ℕ) → x ≤ y → most r x ≤ most r y
 most_rises r x y h = omega (arith, drift_rises r x y h)
+
+-- what differs from the oscillator by no more than the drift and the resolution may elapse
+pub may_elapse : (r : Rates) (x t : ℕ) → abs_diff t x * 1000000 ≤ x * r.drift_ppm + r.resolution * 1000000 → MayElapse r x (pos t)
+may_elapse r x t h = (omega (arith, ints), omega (arith, ints))
+
+-- and what differs by a unit more may not
+pub may_not_elapse : (r : Rates) (x t : ℕ) → x * r.drift_ppm + (r.resolution + 1) * 1000000 ≤ abs_diff t x * 1000000 → MayElapse r x (pos t) → ⊥
+may_not_elapse r x t h may = omega (arith, ints, may)

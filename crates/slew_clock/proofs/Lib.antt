@@ -3,3 +3,8 @@ pub mod LineLaws
 pub mod ReadingLaws
 pub mod StartLaws
 pub mod ElapsedLaws
+pub mod Rows
+pub mod ChangeLaws
+pub mod ClockLaws
+pub mod PaceLaws
+pub mod Fits

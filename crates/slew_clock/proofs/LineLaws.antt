@@ -11,7 +11,7 @@ use Rattle.slew_clock.specs.Line.{advance, first_part, second_part, line}
 use Rattle.slew_clock.proofs.Slewing.{slewed}
 
 -- the greatest slew is at most a whole lease
-slew_within : (r : Rates) → greatest_slew r ≤ r.lease
+pub slew_within : (r : Rates) → greatest_slew r ≤ r.lease
 slew_within r =
     div-le_of_le-mul 1000000 (omega (arith, mul-le-mul_left r.lease r.slew_to))
 
@@ -24,7 +24,7 @@ advance_is r (negsuc a) s =
     let small : a + 1 ≤ r.lease = omega (arith, ints, slew_within r, s.0) in
     (r.lease - (a + 1), omega arith, λ e. slewed (negsuc a) (r.lease - (a + 1)) e r.lease (omega (arith, r.lease_from)) (omega (arith, ints)))
 
-quotient_rises : (a b n : ℕ) → 0 < n → a ≤ b → a / n ≤ b / n
+pub quotient_rises : (a b n : ℕ) → 0 < n → a ≤ b → a / n ≤ b / n
 quotient_rises a b n p h = le-div (a / n) b n p (le_trans (div-mul-le_self a n) h)
 
 -- the longer the oscillator goes on, the farther the clock goes

@@ -4,10 +4,9 @@ use Rattle.std.proofs.lemmas.Int.{ints}
 use Rattle.std.proofs.Math.Nat.{zero-div, zero-mul, add-zero, le_trans}
 use Rattle.dts_base.specs.declared.interval.Interval.{Interval}
 use Rattle.slew_clock.specs.declared.rates.Rates.{Rates}
-use Rattle.slew_clock.specs.Elapsed.{carried}
 use Rattle.slew_clock.specs.Record.{IsSlew, IsSound, IsSoundAnchor}
 use Rattle.slew_clock.specs.Line.{advance, line}
-use Rattle.slew_clock.specs.Reading.{interval_of}
+use Rattle.slew_clock.specs.Reading.{ends_since, interval_of}
 use Rattle.slew_clock.specs.Started.{started, StartsWithin}
 use Rattle.slew_clock.proofs.LineLaws.{line_second}
 use Rattle.slew_clock.proofs.ReadingLaws.{interval-none, interval-some}
@@ -36,8 +35,8 @@ started_line_never_falls r osc value first o p h later =
 pub started_interval-none : (r : Rates) (osc : ℕ) (value : ℤ) (o : ℕ) → interval_of r (started osc value None) o ≡ None
 started_interval-none r osc value o = interval-none r (started osc value None) o refl
 
--- else it is the first one, carried on
-pub started_interval-some : (r : Rates) (osc : ℕ) (value : ℤ) (i : Interval) (o : ℕ) → interval_of r (started osc value (Some i)) o ≡ Some (carried r i.lo i.hi osc osc o)
+-- else it is that of the first one
+pub started_interval-some : (r : Rates) (osc : ℕ) (value : ℤ) (i : Interval) (o : ℕ) → interval_of r (started osc value (Some i)) o ≡ Some (ends_since r (record { osc = osc; lo = i.lo; hi = i.hi }) o)
 started_interval-some r osc value i o = interval-some r (started osc value (Some i)) o (record { osc = osc; lo = i.lo; hi = i.hi }) refl
 
 -- a started record is sound for all rates

@@ -5,3 +5,5 @@ pub mod Reading
 pub mod Started
 pub mod UsualRates
 pub mod Ranges
+pub mod Change
+pub mod Clock

@@ -1,4 +1,4 @@
--- The line of a record: the clock's value at each oscillator reading from the beginning of its first part. Our own choice.
+-- The line of a record: the clock's value at each oscillator reading from the beginning of its first part.
 use Rattle.std.specs.Prelude.{ℕ, ◌-◌, nat_lt, nat_le, if◌then◌else◌, ℤ, pos, ◌+ℤ◌, ◌*ℤ◌}
 use Rattle.std.specs.Int.{int_div_euclid}
 use Rattle.slew_clock.specs.declared.rates.Rates.{Rates}

@@ -1,4 +1,4 @@
--- The rates that a clock has by default. Our own choice.
+-- The rates that a clock has by default.
 use Rattle.std.proofs.Common.{lit≤}
 use Rattle.slew_clock.specs.declared.rates.Rates.{Rates}
 

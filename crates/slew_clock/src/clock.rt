@@ -5,15 +5,18 @@ ghost use Rattle.slew_clock.specs.Started.{started, StartsWithin};
 ghost use Rattle.slew_clock.specs.Line.{advance, line};
 ghost use Rattle.slew_clock.specs.Reading.{interval_of, inaccuracy_of, or_zero, reach, specified, IsReading};
 
-use crate::{Anchor, ClockRecord, PartA, PartB, Rates, Reading, Regressed};
+use crate::{
+    Anchor, ClockRecord, GREATEST_INACCURACY, GREATEST_LEASE, GREATEST_OSC, GREATEST_TIME, PartA,
+    PartB, Rates, Reading, Regressed,
+};
 use dts_base::Interval;
 
 /// The record that a clock starts with at an oscillator reading: its value there, no slew, and the first
-/// interval as its anchor where one is known. It is sound for all rates. Our own choice.
+/// interval as its anchor where one is known. It is sound for all rates.
 pub fn start(osc: u64, value: i64, first: Option<Interval>) -> ClockRecord
-    requires osc { osc ≤ 2 ^ 60 }
+    requires osc { osc ≤ GREATEST_OSC }
     requires from { pos 0 ≤ℤ value }
-    requires to { value ≤ℤ pos (2 ^ 61) }
+    requires to { value ≤ℤ GREATEST_TIME }
     requires first { StartsWithin first }
     ensures made { result ≡ started osc value first }
     ensures sound { (r : Rates) → IsSound r result }
@@ -49,10 +52,10 @@ fn advance_by(r: &Rates, x: i64, elapsed: u64) -> i128
 }
 
 // The line of a record.
-fn line_at(r: &Rates, rec: &ClockRecord, osc: u64) -> i128
+pub(crate) fn line_at(r: &Rates, rec: &ClockRecord, osc: u64) -> i128
     requires sound { IsSound r.now rec.now }
     requires begun { rec.now.a.from ≤ osc }
-    requires osc { osc ≤ 2 ^ 60 }
+    requires osc { osc ≤ GREATEST_OSC + GREATEST_LEASE }
     ensures { result ≡ line r.now rec.now osc }
 {
     let value = i128::from(rec.a.value);
@@ -65,12 +68,11 @@ fn line_at(r: &Rates, rec: &ClockRecord, osc: u64) -> i128
         + advance_by(r, rec.b.x, at - rec.b.from)
 }
 
-/// The interval that holds true time at an oscillator reading, in units of 100 ns: the record's anchor,
-/// carried on. None exactly without an anchor. Our own choice.
-pub fn interval_at(r: &Rates, rec: &ClockRecord, osc: u64) -> Option<(i128, i128)>
+// The interval of a record, also a lease ahead.
+pub(crate) fn interval_ahead(r: &Rates, rec: &ClockRecord, osc: u64) -> Option<(i128, i128)>
     requires sound { IsSound r.now rec.now }
     requires born { rec.now.born ≤ osc }
-    requires osc { osc ≤ 2 ^ 60 }
+    requires osc { osc ≤ GREATEST_OSC + GREATEST_LEASE }
     ensures interval { result ≡ interval_of r.now rec.now osc }
     ensures anchored { IsSome result ↔ IsSome rec.now.anchor }
 {
@@ -81,8 +83,18 @@ pub fn interval_at(r: &Rates, rec: &ClockRecord, osc: u64) -> Option<(i128, i128
     Some((lo, hi))
 }
 
-// The greatest inaccuracy that is specified, in units of 100 ns.
-const GREATEST_INACCURACY: i128 = 281_474_976_710_654;
+/// The interval that holds true time at an oscillator reading, in units of 100 ns: its ends are those of
+/// the record's anchor with the least and the most that can have passed since. None exactly without an
+/// anchor.
+pub fn interval_at(r: &Rates, rec: &ClockRecord, osc: u64) -> Option<(i128, i128)>
+    requires sound { IsSound r.now rec.now }
+    requires born { rec.now.born ≤ osc }
+    requires osc { osc ≤ GREATEST_OSC }
+    ensures interval { result ≡ interval_of r.now rec.now osc }
+    ensures anchored { IsSome result ↔ IsSome rec.now.anchor }
+{
+    interval_ahead(r, rec, osc)
+}
 
 // How far a value is from the farther end of an interval, and 0 at the least.
 fn reach_in(value: i128, lo: i128, hi: i128) -> i128
@@ -99,7 +111,7 @@ fn specified_at(reach: i128) -> Option<u64>
     requires { pos 0 ≤ℤ reach }
     ensures { result ≡ specified (or_zero reach) }
 {
-    if reach <= GREATEST_INACCURACY {
+    if reach <= i128::from(GREATEST_INACCURACY) {
         Some(reach as u64)
     } else {
         None
@@ -108,11 +120,11 @@ fn specified_at(reach: i128) -> Option<u64>
 
 /// The reading of a record at an oscillator reading. Its value is the line of the record, its inaccuracy
 /// how far that is from the farther end of the interval that holds true time, in units of 100 ns; it is
-/// unspecified exactly without an anchor or above 2^48 - 2. Refused exactly where the oscillator reading
-/// is below that at which the record was made. Our own choice.
+/// unspecified exactly without an anchor or above `GREATEST_INACCURACY`. Refused exactly where the oscillator reading
+/// is below that at which the record was made.
 pub fn read_at(r: &Rates, rec: &ClockRecord, osc: u64) -> Result<Reading, Regressed>
     requires sound { IsSound r.now rec.now }
-    requires osc { osc ≤ 2 ^ 60 }
+    requires osc { osc ≤ GREATEST_OSC }
     ensures reading { IfOk result (IsReading r.now rec.now osc) }
     ensures regressed { IsErr result ↔ (osc < rec.now.born) }
     ensures floor { IfErr result (λ e. e ≡ record { floor = rec.now.born; osc = osc; number = rec.now.number }) }

@@ -1,28 +1,58 @@
 ghost use Rattle.std.specs.Prelude.{◌≤◌};
+ghost use Rattle.slew_clock.specs.declared.rates.TheConstants.{GREATEST_DRIFT_PPM, GREATEST_RESOLUTION, LEAST_LEASE, GREATEST_LEASE, LEAST_SLEW_PPM, GREATEST_SLEW_PPM, LEAST_TOLERANCE, GREATEST_TOLERANCE};
 
 use thiserror::Error;
 
-/// The rates of a clock: how far its oscillator may drift, and how fast it is slewed. Our own choice.
+/// The greatest drift of an oscillator, in parts per million.
+pub const GREATEST_DRIFT_PPM: u32 = 10_000;
+
+/// The greatest resolution of an oscillator, in units of 100 ns.
+pub const GREATEST_RESOLUTION: u32 = 10_000_000;
+
+/// The shortest lease, in units of 100 ns.
+pub const LEAST_LEASE: u64 = 1_000_000;
+
+/// The longest lease, in units of 100 ns.
+pub const GREATEST_LEASE: u64 = 36_000_000_000;
+
+/// The least limit of the slew, in parts per million.
+pub const LEAST_SLEW_PPM: u32 = 1;
+
+/// The greatest limit of the slew, in parts per million.
+pub const GREATEST_SLEW_PPM: u32 = 100_000;
+
+/// The least tolerance, in units of 100 ns.
+pub const LEAST_TOLERANCE: u64 = 1;
+
+/// The greatest tolerance, in units of 100 ns.
+pub const GREATEST_TOLERANCE: u64 = 1_000_000_000_000_000;
+
+/// Drift and slew are counted in parts per million.
+pub const MILLION: u64 = 1_000_000;
+
+/// The rates of a clock: how far its oscillator may drift, and how fast it is slewed. The ranges of the
+/// fields include both ends.
 #[derive(Clone, Copy, Debug, PartialEq, Eq)]
 pub struct Rates {
-    /// The greatest drift of the oscillator, in parts per million: at most 10,000.
+    /// The greatest drift of the oscillator, in parts per million: at most `GREATEST_DRIFT_PPM`.
     pub drift_ppm: u32,
-    /// The resolution of the oscillator, in units of 100 ns: at most 10,000,000.
+    /// The resolution of the oscillator, in units of 100 ns: at most `GREATEST_RESOLUTION`.
     pub resolution: u32,
-    /// How long a part of the line holds, in units of 100 ns: 1,000,000 to 36,000,000,000.
+    /// How long a part of the line holds, in units of 100 ns: `LEAST_LEASE` to `GREATEST_LEASE`.
     pub lease: u64,
-    /// The greatest slew, in parts per million: 1 to 100,000.
+    /// The greatest slew, in parts per million: `LEAST_SLEW_PPM` to `GREATEST_SLEW_PPM`.
     pub slew_ppm: u32,
-    /// How far the line may be from an adopted middle before the clock steps, in units of 100 ns: 1 to 10^15.
+    /// How far the line may be from an adopted middle before the clock steps, in units of 100 ns:
+    /// `LEAST_TOLERANCE` to `GREATEST_TOLERANCE`.
     pub tolerance: u64,
-    pub ghost drift_in_range: { drift_ppm ≤ 10000 },
-    pub ghost resolution_in_range: { resolution ≤ 10000000 },
-    pub ghost lease_from: { 1000000 ≤ lease },
-    pub ghost lease_to: { lease ≤ 36000000000 },
-    pub ghost slew_from: { 1 ≤ slew_ppm },
-    pub ghost slew_to: { slew_ppm ≤ 100000 },
-    pub ghost tolerance_from: { 1 ≤ tolerance },
-    pub ghost tolerance_to: { tolerance ≤ 1000000000000000 },
+    pub ghost drift_in_range: { drift_ppm ≤ GREATEST_DRIFT_PPM },
+    pub ghost resolution_in_range: { resolution ≤ GREATEST_RESOLUTION },
+    pub ghost lease_from: { LEAST_LEASE ≤ lease },
+    pub ghost lease_to: { lease ≤ GREATEST_LEASE },
+    pub ghost slew_from: { LEAST_SLEW_PPM ≤ slew_ppm },
+    pub ghost slew_to: { slew_ppm ≤ GREATEST_SLEW_PPM },
+    pub ghost tolerance_from: { LEAST_TOLERANCE ≤ tolerance },
+    pub ghost tolerance_to: { tolerance ≤ GREATEST_TOLERANCE },
 }
 
 /// An argument of `Rates::new` is out of its range.
@@ -38,9 +68,9 @@ impl Rates {
     ghost use Rattle.slew_clock.specs.UsualRates.{usual_rates};
     ghost use Rattle.slew_clock.specs.Ranges.{first_out};
     ghost use Rattle.slew_clock.specs.Elapsed.{drift_of, most, least};
+    ghost use Rattle.slew_clock.specs.Record.{greatest_slew};
 
-    /// These rates, or the position of the first argument that is out of its range. The ranges, which
-    /// include both ends, are those of the fields. Our own choice.
+    /// These rates, or the position of the first argument that is out of the range of its field.
     pub fn new(
         drift_ppm: u32,
         resolution: u32,
@@ -57,19 +87,19 @@ impl Rates {
             (λ _. first_out drift_ppm resolution lease slew_ppm tolerance ≡ None)
             (λ e. first_out drift_ppm resolution lease slew_ppm tolerance ≡ Some e.which) }
     {
-        if drift_ppm > 10_000 {
+        if drift_ppm > GREATEST_DRIFT_PPM {
             return Err(RateRange { which: 0 });
         }
-        if resolution > 10_000_000 {
+        if resolution > GREATEST_RESOLUTION {
             return Err(RateRange { which: 1 });
         }
-        if lease < 1_000_000 || lease > 36_000_000_000 {
+        if lease < LEAST_LEASE || lease > GREATEST_LEASE {
             return Err(RateRange { which: 2 });
         }
-        if slew_ppm < 1 || slew_ppm > 100_000 {
+        if slew_ppm < LEAST_SLEW_PPM || slew_ppm > GREATEST_SLEW_PPM {
             return Err(RateRange { which: 3 });
         }
-        if tolerance < 1 || tolerance > 1_000_000_000_000_000 {
+        if tolerance < LEAST_TOLERANCE || tolerance > GREATEST_TOLERANCE {
             return Err(RateRange { which: 4 });
         }
         Ok(Rates {
@@ -82,7 +112,7 @@ impl Rates {
     }
 
     /// The rates that a clock has by default: a drift of 100 parts per million, a resolution of one unit
-    /// of 100 ns, a lease of 4 s, a slew of 10,000 parts per million, a tolerance of 10 minutes. Our own choice.
+    /// of 100 ns, a lease of 4 s, a slew of 10,000 parts per million, a tolerance of 10 minutes.
     pub fn usual() -> Rates
         ensures usual { result ≡ usual_rates }
     {
@@ -101,7 +131,7 @@ impl Rates {
         ensures within { result ≤ elapsed }
     {
         let parts = u128::from(elapsed) * u128::from(self.drift_ppm);
-        parts.div_ceil(1_000_000) as u64
+        parts.div_ceil(u128::from(MILLION)) as u64
     }
 
     // The most that passed where the oscillator went on by so many units.
@@ -109,6 +139,14 @@ impl Rates {
         ensures { result ≡ pos (most self.now elapsed) }
     {
         i128::from(elapsed) + i128::from(self.drift(elapsed)) + i128::from(self.resolution)
+    }
+
+    // The greatest slew over a whole lease.
+    pub(crate) fn greatest_slew(&self) -> u64
+        ensures slew { result ≡ greatest_slew self.now }
+        ensures within { result ≤ self.now.lease }
+    {
+        self.lease * u64::from(self.slew_ppm) / MILLION
     }
 
     // The least that passed.

@@ -1,5 +1,6 @@
 ghost use Rattle.std.specs.Prelude.{◌≤◌};
 ghost use Rattle.std.specs.Option.{ForSome};
+ghost use Rattle.slew_clock.specs.declared.limits.TheConstants.{GREATEST_INACCURACY};
 
 use thiserror::Error;
 
@@ -8,7 +9,7 @@ use thiserror::Error;
 pub struct Reading {
     /// The clock's value, a time count.
     pub value: i64,
-    /// The inaccuracy in units of 100 ns, at most 2^48 - 2, or none where it is unspecified.
+    /// The inaccuracy in units of 100 ns, at most `GREATEST_INACCURACY`, or none where it is unspecified.
     pub inaccuracy: Option<u64>,
     /// The step number of the record.
     pub step: u64,
@@ -16,7 +17,7 @@ pub struct Reading {
     pub number: u64,
     /// The oscillator reading.
     pub osc: u64,
-    pub ghost in_range: { ForSome inaccuracy (λ i. i ≤ 281474976710654) },
+    pub ghost in_range: { ForSome inaccuracy (λ i. i ≤ GREATEST_INACCURACY) },
 }
 
 /// The oscillator reading is below that at which the record was made.

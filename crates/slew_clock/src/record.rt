@@ -1,4 +1,4 @@
-/// The interval that a clock adopted last, and when. Our own choice.
+/// The interval that a clock adopted last, and when.
 #[derive(Clone, Copy, Debug, PartialEq, Eq)]
 pub struct Anchor {
     /// The oscillator reading at which the interval held true time.
@@ -9,7 +9,7 @@ pub struct Anchor {
     pub hi: i64,
 }
 
-/// The first part of a clock's line. Our own choice.
+/// The first part of a clock's line.
 #[derive(Clone, Copy, Debug, PartialEq, Eq)]
 pub struct PartA {
     /// The oscillator reading at which it begins.
@@ -20,7 +20,7 @@ pub struct PartA {
     pub x: i64,
 }
 
-/// The second part of a clock's line, which begins where the first one ends. Our own choice.
+/// The second part of a clock's line, which begins where the first one ends.
 #[derive(Clone, Copy, Debug, PartialEq, Eq)]
 pub struct PartB {
     /// The oscillator reading at which it begins.
@@ -29,7 +29,7 @@ pub struct PartB {
     pub x: i64,
 }
 
-/// A record of the clock: all that a reading needs beside an oscillator reading. Our own choice.
+/// A record of the clock: all that a reading needs beside an oscillator reading.
 #[derive(Clone, Copy, Debug, PartialEq, Eq)]
 pub struct ClockRecord {
     /// Its number, from 0.

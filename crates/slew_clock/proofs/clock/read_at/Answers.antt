@@ -1,17 +1,13 @@
-use Rattle.std.proofs.Common.{◌≡◌, ℤ, pos, negsuc, ◌≤ℤ◌, ◌^◌, ◌-◌, refl, sym, ap, ◌∙◌, arith, to_z, of_z, SFits}
+use Rattle.std.proofs.Common.{◌≡◌, pos, refl, sym, ap, ◌∙◌, arith, to_z, of_z}
 use Rattle.std.proofs.lemmas.Int.{ints}
-use Rattle.std.specs.Int.{w64, w128}
+use Rattle.std.specs.Int.{w128}
 use Rattle.slew_clock.specs.Line.{line}
 use Rattle.slew_clock.specs.Reading.{or_zero, reach, specified}
+use Rattle.slew_clock.proofs.Fits.{fits_from}
 use Rattle.slew_clock.proofs.LineLaws.{line_from, line_to}
 use Rattle.slew_clock.proofs.ReadingLaws.{interval_within, inaccuracy-none, inaccuracy-some}
 use Rattle.slew_clock.proofs.clock.read_at.Goals as goal
 use Rattle.slew_clock.proofs.clock.read_at.Goals.{in-Some, in-None}
-
--- a time up to 2^63 - 1 fits 64 bits
-fits_from : (z : ℤ) → pos 0 ≤ℤ z → z ≤ℤ pos (2 ^ 63 - 1) → SFits w64 z
-fits_from (pos n) from to = record { sfits = omega (arith, ints, to) }
-fits_from (negsuc n) from to = absurd (omega (arith, ints, from))
 
 pub reach_in-requires-clause-value : goal.reach_in-requires-clause-value
 reach_in-requires-clause-value c =
@@ -22,12 +18,12 @@ reach_in-requires-clause-value c =
 
 pub reach_in-requires-clause-lo : goal.reach_in-requires-clause-lo
 reach_in-requires-clause-lo c =
-    let ends = interval_within c.args.r.now c.args.rec.now c.args.osc (c.in-Some.lo, c.in-Some.hi) c.requires.sound c.if-osc-rec.false c.requires.osc (sym c.in-Some.ensures.interval) in
+    let ends = interval_within c.args.r.now c.args.rec.now c.args.osc (c.in-Some.lo, c.in-Some.hi) c.requires.sound c.if-osc-rec.false (omega (arith, c.requires.osc)) (sym c.in-Some.ensures.interval) in
     (omega (arith, ints, ends.0, ends.1, ends.2), omega (arith, ints, ends.0, ends.1, ends.2))
 
 pub reach_in-requires-clause-hi : goal.reach_in-requires-clause-hi
 reach_in-requires-clause-hi c =
-    let ends = interval_within c.args.r.now c.args.rec.now c.args.osc (c.in-Some.lo, c.in-Some.hi) c.requires.sound c.if-osc-rec.false c.requires.osc (sym c.in-Some.ensures.interval) in
+    let ends = interval_within c.args.r.now c.args.rec.now c.args.osc (c.in-Some.lo, c.in-Some.hi) c.requires.sound c.if-osc-rec.false (omega (arith, c.requires.osc)) (sym c.in-Some.ensures.interval) in
     (omega (arith, ints, ends.0, ends.1, ends.2), omega (arith, ints, ends.0, ends.1, ends.2))
 
 pub overflow_cast-result : goal.overflow_cast-result
@@ -49,7 +45,7 @@ returns-clause-reading c =
       value = omega (arith, ints, from, to, value);
       inaccuracy = elim c.match-interval_at.branch [
         | in-Some w ↦
-            let ends = interval_within r rec c.args.osc (w.in-Some.lo, w.in-Some.hi) s c.if-osc-rec.false c.requires.osc (sym w.in-Some.ensures.interval) in
+            let ends = interval_within r rec c.args.osc (w.in-Some.lo, w.in-Some.hi) s c.if-osc-rec.false (omega (arith, c.requires.osc)) (sym w.in-Some.ensures.interval) in
             let lo : to_z w128 (of_z w128 w.in-Some.lo) ≡ w.in-Some.lo = omega (arith, ints, ends.0, ends.1, ends.2) in
             let hi : to_z w128 (of_z w128 w.in-Some.hi) ≡ w.in-Some.hi = omega (arith, ints, ends.0, ends.1, ends.2) in
             let kept : to_z w128 (of_z w128 w.reach_in.result) ≡ w.reach_in.result = omega (arith, ints) in

@@ -1,0 +1,4 @@
+pub mod Rows
+pub mod PointLaws
+pub mod AdoptionLaws
+pub mod LoopLaws
