@@ -1,5 +1,10 @@
 pub mod LineFacts
+mod JoinFacts
 mod Places
 mod Taking
-pub mod Advancing
+mod Advancing
 pub mod Reading
+mod Cuts
+pub mod FieldFacts
+pub mod Decimals
+mod Rows

@@ -1,7 +1,7 @@
 -- Laws of the lines of octets.
-use Rattle.std.proofs.Common.{◌≡◌, ◌≢◌, ℕ, zero, suc, true, false, cond, eqb, List, [], ◌∷◌, ◌++◌, take, refl, sym, ap, ◌∙◌, subst}
-use Rattle.std.proofs.lemmas.Bool.{eqb-true}
-use Rattle.line_reader.specs.Lines.{lines_of, with_first, IsLine}
+use Rattle.std.proofs.Common.{◌≡◌, ◌≢◌, ℕ, zero, suc, true, false, cond, eqb, List, [], ◌∷◌, ◌++◌, take, refl, sym, ap, ◌∙◌, subst, append_assoc}
+use Rattle.std.proofs.lemmas.Bool.{eqb-true, eqb-false}
+use Rattle.line_reader.specs.Lines.{lines_of, with_first, whole_lines, to_first, IsLine, AreLines, joined, last_line}
 
 -- an octet that is no line feed fails the test for one
 no_feed : (octet : ℕ) → octet ≢ 10 → eqb octet 10 ≡ false
@@ -60,3 +60,47 @@ pub IsLine-take : (n : ℕ) (xs : List ℕ) → IsLine xs → IsLine (take n xs)
 IsLine-take zero xs is = tt
 IsLine-take (suc n) [] is = tt
 IsLine-take (suc n) (x ∷ xs) (ne, is) = (ne, IsLine-take n xs is)
+
+-- octets without a line feed are the last line
+pub lines_of-rest : (rest : List ℕ) → IsLine rest → lines_of rest ≡ last_line rest
+lines_of-rest [] is = lines_of-nothing
+lines_of-rest (octet ∷ rest) is = lines_of-last octet rest is
+
+-- lines with their line feeds, and what follows
+pub lines_of-joined : (lines : List (List ℕ)) (rest : List ℕ) → AreLines lines → lines_of (joined lines ++ rest) ≡ lines ++ lines_of rest
+lines_of-joined [] rest are = refl
+lines_of-joined (line ∷ lines) rest (is, are) =
+    ap lines_of (append_assoc line (10 ∷ joined lines) rest) ∙ lines_of-line line (joined lines ++ rest) is ∙ ap (λ ls. line ∷ ls) (lines_of-joined lines rest are)
+
+-- octets without a line feed have no whole line
+pub whole_lines-rest : (rest : List ℕ) → IsLine rest → whole_lines rest ≡ []
+unfolding whole_lines
+whole_lines-rest [] is = refl
+whole_lines-rest (octet ∷ rest) (ne, is) =
+    ap (λ b. cond b ([] ∷ whole_lines rest) (to_first octet (whole_lines rest))) (no_feed octet ne) ∙ ap (to_first octet) (whole_lines-rest rest is)
+
+pub whole_lines-line : (line rest : List ℕ) → IsLine line → whole_lines (line ++ 10 ∷ rest) ≡ line ∷ whole_lines rest
+unfolding whole_lines
+whole_lines-line [] rest is = refl
+whole_lines-line (octet ∷ line) rest (ne, is) =
+    ap (λ b. cond b ([] ∷ whole_lines (line ++ 10 ∷ rest)) (to_first octet (whole_lines (line ++ 10 ∷ rest)))) (no_feed octet ne)
+    ∙ ap (to_first octet) (whole_lines-line line rest is)
+
+pub whole_lines-joined : (lines : List (List ℕ)) (rest : List ℕ) → AreLines lines → IsLine rest → whole_lines (joined lines ++ rest) ≡ lines
+whole_lines-joined [] rest are is = whole_lines-rest rest is
+whole_lines-joined (line ∷ lines) rest (first, are) is =
+    ap whole_lines (append_assoc line (10 ∷ joined lines) rest) ∙ whole_lines-line line (joined lines ++ rest) first ∙ ap (λ ls. line ∷ ls) (whole_lines-joined lines rest are is)
+
+-- lines without line feeds, and an octet that is none
+first_line : (octet : ℕ) (lines : List (List ℕ)) → octet ≢ 10 → AreLines lines → AreLines (with_first octet lines)
+first_line octet [] ne are = ((ne, tt), tt)
+first_line octet (line ∷ lines) ne (is, are) = ((ne, is), are)
+
+pub lines_of-are_lines : (octets : List ℕ) → AreLines (lines_of octets)
+unfolding lines_of
+lines_of-are_lines [] = tt
+lines_of-are_lines (octet ∷ octets) =
+    elim (eqb octet 10) as (λ b. eqb octet 10 ≡ b → AreLines (cond b ([] ∷ lines_of octets) (with_first octet (lines_of octets)))) [
+      | true ↦ λ e. (tt, lines_of-are_lines octets)
+      | false ↦ λ e. first_line octet (lines_of octets) (eqb-false octet 10 e) (lines_of-are_lines octets)
+    ] refl

@@ -1,4 +1,9 @@
 pub mod Lines
+pub mod Laws
 pub mod Reader
+pub mod Taken
 pub mod Steps
 pub mod Places
+pub mod Fields
+pub mod Columns
+pub mod Numbers

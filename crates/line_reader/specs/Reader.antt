@@ -1,47 +1,60 @@
--- What a reader of lines reads. Our own choice.
-use Rattle.std.specs.Prelude.{◌≡◌, ◌⊎◌, ℕ, ◌<◌, ◌≤◌, Bool, List, [], ◌∷◌, ◌++◌, length, Option, Some, Result, MatchResult}
+-- What a reader of lines reads.
+use Rattle.std.specs.Prelude.{◌≡◌, ◌⊎◌, ℕ, ◌+◌, ◌<◌, ◌≤◌, Bool, true, false, List, [], ◌∷◌, ◌++◌, length, Result, Ok, MatchResult}
 use Rattle.std.specs.Bool.{MatchBool}
-use Rattle.dts_base.specs.Streams.{BeginsWith}
-use Rattle.line_reader.specs.Lines.{lines_of}
+use Rattle.line_reader.specs.declared.limits.TheConstants.{MAX_LINE}
+use Rattle.line_reader.specs.Lines.{IsLine}
 
--- the line that was read last, and the octets that were read behind it
+-- the line that was taken last, the octets that were read behind it, and whether the source has come to its end
 pub record Reader : Type 0 where
   pub line : List ℕ
   pub ahead : List ℕ
+  pub ended : Bool
 
--- the line is the first of the octets that come, has at most that many octets, and the rest comes behind it
-pub record IsWhole (most : ℕ) (coming line rest : List ℕ) : Type 0 where
-  pub lines : lines_of coming ≡ line ∷ lines_of rest
-  pub short : length line ≤ most
+-- the octets begin with a line and its line feed, and it is taken
+pub record TakesWhole (octets : List ℕ) (new : Reader) : Type 0 where
+  pub is_line : IsLine new.line
+  pub short : length new.line ≤ MAX_LINE
+  pub all : octets ≡ new.line ++ 10 ∷ new.ahead
+  pub going : new.ended ≡ false
 
--- the first line of the octets that come has more than that many octets, and so has this beginning of it, behind which the rest comes
-pub record IsCut (most : ℕ) (coming line rest : List ℕ) : Type 0 where
-  pub first : List ℕ
-  pub others : List (List ℕ)
-  pub lines : lines_of coming ≡ first ∷ others
-  pub beginning : BeginsWith line first
-  pub long : most < length line
-  pub all : coming ≡ line ++ rest
+-- the octets are the last line, which lacks its line feed, and it is taken: the source has none left
+pub record TakesLast (octets : List ℕ) (new : Reader) (left : List ℕ) : Type 0 where
+  pub is_line : IsLine new.line
+  pub some : 0 < length new.line
+  pub short : length new.line ≤ MAX_LINE
+  pub all : octets ≡ new.line
+  pub none_ahead : new.ahead ≡ []
+  pub none_left : left ≡ []
+  pub ended : new.ended ≡ true
 
-abbrev pub IsNext : ℕ → List ℕ → List ℕ → List ℕ → Type 0
-IsNext most coming line rest = IsWhole most coming line rest ⊎ IsCut most coming line rest
+-- the octets begin with a line that is too long, and of it one octet more is taken than a line may have
+pub record Cuts (octets : List ℕ) (new : Reader) : Type 0 where
+  pub is_line : IsLine new.line
+  pub long : length new.line ≡ MAX_LINE + 1
+  pub all : octets ≡ new.line ++ new.ahead
+  pub going : new.ended ≡ false
 
--- Of the octets that were read and those that the source has left, the next line is read where there is one, and nothing is lost.
-abbrev pub Advances : {E : Type 0} → ℕ → Reader → Reader → Result Bool E → List ℕ → List ℕ → Type 0
-Advances most old new result left more = MatchResult result
-    (λ there. MatchBool there (IsNext most (old.ahead ++ left) new.line (new.ahead ++ more)) ((old.ahead ++ left ≡ []) × (new.ahead ++ more ≡ [])))
-    (λ _. old.ahead ++ left ≡ new.ahead ++ more)
+-- there are no octets: the source has none left, if it hadn't come to its end before
+pub record Ends (old : Reader) (octets : List ℕ) (new : Reader) (left : List ℕ) : Type 0 where
+  pub none : octets ≡ []
+  pub none_left : old.ended ≡ false → left ≡ []
+  pub new_is : new ≡ record { line = []; ahead = []; ended = true }
 
--- Of the octets these lines were taken; behind the octets ahead comes what the source tells to be left.
-pub record HasTaken (octets : List ℕ) (taken : List (List ℕ)) (reader : Reader) (left : Option (List ℕ)) : Type 0 where
-  pub more : List ℕ
-  pub left_is : left ≡ Some more
-  pub lines : lines_of octets ≡ taken ++ lines_of (reader.ahead ++ more)
+-- the octets stay ahead, and no line is taken: none of them is whole
+pub record Keeps (octets : List ℕ) (new : Reader) : Type 0 where
+  pub is_line : IsLine octets
+  pub short : length octets ≤ MAX_LINE
+  pub new_is : new ≡ record { line = []; ahead = octets; ended = false }
 
--- behind the lines that were taken of the octets a line begins with these, and has more than so many
-pub record IsLong (most : ℕ) (octets : List ℕ) (taken : List (List ℕ)) (line : List ℕ) : Type 0 where
-  pub first : List ℕ
-  pub others : List (List ℕ)
-  pub lines : lines_of octets ≡ taken ++ first ∷ others
-  pub beginning : BeginsWith line first
-  pub long : most < length line
+-- What is done with the octets that were ahead or read, where the source has these left.
+abbrev pub Takes : {E : Type 0} → Reader → List ℕ → Reader → List ℕ → Result Bool E → Type 0
+Takes old octets new left result = MatchResult result
+    (λ there. MatchBool there (TakesWhole octets new ⊎ (TakesLast octets new left ⊎ Cuts octets new)) (Ends old octets new left))
+    (λ _. Keeps octets new)
+
+-- The reader goes on: some octets are read of those that were left, and the next line is taken where there is one. Once it has come to the end it reads no more.
+pub record Advances {E : Type 0} (old new : Reader) (result : Result Bool E) (left more : List ℕ) : Type 0 where
+  pub read : List ℕ
+  pub all : left ≡ read ++ more
+  pub takes : Takes old (old.ahead ++ read) new more result
+  pub ended : old.ended ≡ true → (result ≡ Ok false) × (read ≡ [])

@@ -5,11 +5,22 @@ use dts_base::{Failed, MemorySource, Source};
 use std::process::Abort;
 use std::test::Fail;
 
-// A source that gives at most so many octets at once.
+// A source that gives at most so many octets at once, and counts its calls.
 #[derive(Drop)]
 struct Pieces<'a> {
     octets: &'a [u8],
     most: usize,
+    calls: u64,
+}
+
+impl<'a> Pieces<'a> {
+    fn new(octets: &'a [u8], most: usize) -> Self {
+        Pieces {
+            octets,
+            most,
+            calls: 0,
+        }
+    }
 }
 
 impl Source for Pieces<'_> {
@@ -18,6 +29,7 @@ impl Source for Pieces<'_> {
     ghost faults = { λ _. 0 };
 
     fn read(&mut self, buf: &mut [u8]) -> Result<usize, Failed> {
+        self.calls = self.calls.saturating_add(1);
         let count = self.most.min(buf.len()).min(self.octets.len());
         buf[..count].copy_from_slice(&self.octets[..count]);
         self.octets = &self.octets[count..];
@@ -51,10 +63,7 @@ fn each_octet_but_the_line_feed_belongs_to_its_line(rt: HostRuntime) -> Result<(
 #[test]
 fn a_line_feed_at_the_end_begins_no_line(rt: HostRuntime) -> Result<(), Fail> {
     for most in 1..5 {
-        let mut source = Pieces {
-            octets: b"one\n\ntwo\n",
-            most,
-        };
+        let mut source = Pieces::new(b"one\n\ntwo\n", most);
         let mut reader = LineReader::new(rt.alloc())?;
         expect_line(&rt, &mut reader, &mut source, b"one");
         expect_line(&rt, &mut reader, &mut source, b"");
@@ -78,10 +87,7 @@ fn a_line_has_up_to_16384_octets(rt: HostRuntime) -> Result<(), Fail> {
     let mut octets = line.as_slice().to_vec(rt.alloc())?;
     octets.extend_from_slice(b"\nnext")?;
     for most in [1, 1000, 65_536] {
-        let mut source = Pieces {
-            octets: octets.as_slice(),
-            most,
-        };
+        let mut source = Pieces::new(octets.as_slice(), most);
         let mut reader = LineReader::new(rt.alloc())?;
         expect_line(&rt, &mut reader, &mut source, line.as_slice());
         expect_line(&rt, &mut reader, &mut source, b"next");
@@ -96,10 +102,7 @@ fn a_longer_line_is_cut(rt: HostRuntime) -> Result<(), Fail> {
     let mut octets = beginning.as_slice().to_vec(rt.alloc())?;
     octets.extend_from_slice(b"y\nnext")?;
     for most in [1, 1000, 65_536] {
-        let mut source = Pieces {
-            octets: octets.as_slice(),
-            most,
-        };
+        let mut source = Pieces::new(octets.as_slice(), most);
         let mut reader = LineReader::new(rt.alloc())?;
         expect_line(&rt, &mut reader, &mut source, beginning.as_slice());
         expect_line(&rt, &mut reader, &mut source, b"y");
@@ -139,5 +142,120 @@ fn a_failed_read_loses_nothing(rt: HostRuntime) -> Result<(), Fail> {
     assert_eq!(rt; reader.line(), b"".as_slice());
     expect_line(&rt, &mut reader, &mut source, b"two");
     expect_end(&rt, &mut reader, &mut source);
+    Ok(())
+}
+
+#[test]
+fn a_source_that_has_ended_is_read_no_more(rt: HostRuntime) -> Result<(), Fail> {
+    let mut source = Pieces::new(b"one\ntwo", 100);
+    let mut reader = LineReader::new(rt.alloc())?;
+    expect_line(&rt, &mut reader, &mut source, b"one");
+    expect_line(&rt, &mut reader, &mut source, b"two");
+    assert_eq!(rt; source.calls, 2, "the second gave nothing");
+    source.octets = b"three\n";
+    expect_end(&rt, &mut reader, &mut source);
+    assert_eq!(rt; source.calls, 2);
+    assert_eq!(rt; reader.line(), b"".as_slice());
+    Ok(())
+}
+
+#[test]
+fn limits_are_these(rt: HostRuntime) -> Result<(), Fail> {
+    assert_eq!(rt; MAX_LINE, 16_384);
+    assert_eq!(rt; MAX_LINES, 4_294_967_295);
+    Ok(())
+}
+
+#[test]
+fn fields_stand_at_columns(rt: HostRuntime) -> Result<(), Fail> {
+    let rows: [(&[u8], &[(&[u8], usize)], usize); 4] = [
+        (b"", &[(b"", 1)], 1),
+        (b"read 7", &[(b"read", 1), (b"7", 6)], 7),
+        (
+            b" a  b ",
+            &[(b"", 1), (b"a", 2), (b"", 4), (b"b", 5), (b"", 7)],
+            7,
+        ),
+        (b"a\tb\r", &[(b"a\tb\r", 1)], 5),
+    ];
+    for (line, expected, end) in rows {
+        let mut fields = Fields::new(line);
+        for (field, column) in expected {
+            assert_eq!(rt; fields.next(), Some(*field));
+            assert_eq!(rt; fields.column(), *column);
+        }
+        for _ in 0..2 {
+            assert_eq!(rt; fields.next(), None);
+            assert_eq!(rt; fields.column(), end);
+        }
+    }
+    Ok(())
+}
+
+#[test]
+fn numbers_are_decimal_and_in_their_range(rt: HostRuntime) -> Result<(), Fail> {
+    let rows: [(&[u8], Result<i128, NumberFault>); 24] = [
+        (b"0", Ok(0)),
+        (b"7", Ok(7)),
+        (b"-1", Ok(-1)),
+        (b"-20", Ok(-20)),
+        (b"-21", Err(NumberFault::Range)),
+        (b"1000", Ok(1000)),
+        (b"1001", Err(NumberFault::Range)),
+        (
+            b"170141183460469231731687303715884105727",
+            Err(NumberFault::Range),
+        ),
+        (
+            b"170141183460469231731687303715884105728",
+            Err(NumberFault::Range),
+        ),
+        (
+            b"-170141183460469231731687303715884105729",
+            Err(NumberFault::Range),
+        ),
+        (
+            b"10000000000000000000000000000000000000000000000000000000000000000",
+            Err(NumberFault::Range),
+        ),
+        (
+            b"-10000000000000000000000000000000000000000000000000000000000000000",
+            Err(NumberFault::Range),
+        ),
+        (b"", Err(NumberFault::Form)),
+        (b"-", Err(NumberFault::Form)),
+        (b"+7", Err(NumberFault::Form)),
+        (b"--7", Err(NumberFault::Form)),
+        (b"00", Err(NumberFault::Form)),
+        (b"07", Err(NumberFault::Form)),
+        (b"-0", Err(NumberFault::Form)),
+        (b"-07", Err(NumberFault::Form)),
+        (b"7 ", Err(NumberFault::Form)),
+        (b"0x7", Err(NumberFault::Form)),
+        (b"7\xff", Err(NumberFault::Form)),
+        (
+            b"1000000000000000000000000000000000000000000000000000000000000000x",
+            Err(NumberFault::Form),
+        ),
+    ];
+    for (field, expected) in rows {
+        assert_eq!(rt; number_in(field, -20, 1000), expected);
+    }
+    let widest = number_in(
+        b"-170141183460469231731687303715884105728",
+        i128::MIN,
+        i128::MAX,
+    );
+    assert_eq!(rt; widest, Ok(i128::MIN));
+    let widest = number_in(
+        b"170141183460469231731687303715884105727",
+        i128::MIN,
+        i128::MAX,
+    );
+    assert_eq!(rt; widest, Ok(i128::MAX));
+    let form = format!(in rt.alloc(); "{}", NumberFault::Form)?;
+    assert_eq!(rt; form.as_str(), "no decimal number");
+    let range = format!(in rt.alloc(); "{}", NumberFault::Range)?;
+    assert_eq!(rt; range.as_str(), "a number out of range");
     Ok(())
 }

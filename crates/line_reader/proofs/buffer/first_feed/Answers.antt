@@ -32,7 +32,7 @@ feed_at xs n at is lt is' feed =
     let within : n + at < length xs = omega (arith, length-drop n xs) in
     record {
       within = within;
-      line = up_to xs n at is is';
+      is_line = up_to xs n at is is';
       all = sym (take-append-drop (n + at) xs) ∙ ap (λ r. take (n + at) xs ++ r) (drop-cons xs (n + at) 0 within ∙ ap (λ y. y ∷ drop (suc (n + at)) xs) (sym (get_or-drop n xs at 0) ∙ feed)
           ∙ ap (λ k. 10 ∷ drop k xs) (sym (add-one (n + at))));
     }

@@ -1,4 +1,4 @@
-use Rattle.std.proofs.Common.{◌≡◌, ◌+◌, ◌-◌, ◌<◌, ◌++◌, List, ℕ, length, take, drop, ap, sym, ◌∙◌, arith, rules, length-drop}
+use Rattle.std.proofs.Common.{◌≡◌, ◌+◌, ◌-◌, ◌<◌, List, ℕ, length, take, drop, ap, sym, ◌∙◌, arith, rules, length-drop}
 use Rattle.std.specs.Prelude.{slice_range}
 use Rattle.std.specs.Vec.{with_items}
 use Rattle.std.proofs.lemmas.List.{with_items_is, places, length-take}
@@ -23,7 +23,9 @@ returns-clause-told g c =
     let room : 0 < length (drop to buffer) = omega (arith, length-drop to buffer, few, length-take to (drop inside.ahead_from inside.buffer.items), length-drop inside.ahead_from inside.buffer.items, ap length c.as_mut_slice.ensures.value) in
     let whole : take (to + n) buffer ≡ slice_range buffer 0 (to + n) = let e : to + n ≡ (to + n) - 0 = omega arith in ap (λ k. take k buffer) e in
     Told-weaker _ _ _ _ c.in_ok-count.ensures.told
-    (λ left more h. (
-      reads_behind ahead buffer left more to n kept h.0 ∙ ap (λ x. x ++ more) (whole ∙ ap (λ xs. slice_range xs 0 (to + n)) (sym read)),
-      λ none. h.1 none room,
-    ))
+    (λ left more h. record {
+      read = take n (drop to buffer);
+      all = h.0;
+      ahead = ap (λ xs. slice_range xs 0 (to + n)) read ∙ sym whole ∙ reads_behind ahead buffer to n kept;
+      end = λ none. h.1 none room;
+    })

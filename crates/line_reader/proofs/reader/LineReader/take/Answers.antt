@@ -9,4 +9,4 @@ returns c =
     let to = c.self.inside.ahead_to in
     let octets = c.self.inside.buffer.items in
     let fits : c.args.count + c.args.feeds ≤ to - from = omega (arith, c.requires, ap (λ r. length r.ahead) c.self.view_is, length-take (to - from) (drop from octets)) in
-    rw (← c.self.view_is) (takes_octets octets from to c.args.count c.args.feeds fits)
+    rw (← c.self.view_is) (takes_octets octets from to c.args.count c.args.feeds c.self.inside.ended fits)

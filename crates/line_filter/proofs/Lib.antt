@@ -1,0 +1,3 @@
+pub mod TakeFacts
+mod Stepping
+mod Settling

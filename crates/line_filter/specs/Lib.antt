@@ -1,0 +1,4 @@
+pub mod Filters
+pub mod Laws
+pub mod Progress
+pub mod Steps

@@ -1,0 +1,18 @@
+-- What the steps of a filter do.
+use Rattle.std.specs.Prelude.{◌≡◌, ℕ, ◌+◌, ◌<◌, ◌≤◌, List, length}
+use Rattle.line_reader.specs.declared.limits.TheConstants.{MAX_LINE, MAX_LINES}
+use Rattle.line_filter.specs.declared.stop.Stop.{Stop}
+use Rattle.line_filter.specs.declared.stop.Stop.TheVariants as stop
+use Rattle.line_filter.specs.Filters.{Rules, RefusesLine}
+use Rattle.line_filter.specs.Progress.{TakesNext}
+
+-- in a state that is stood for, a line behind so many others is taken, and is neither too many nor too long
+abbrev pub TakesNumbered : {State Cause : Type 0} → Rules State Cause → ℕ → State → List ℕ → (State → Type 0) → List ℕ → Type 0
+TakesNumbered rules before state line Stands text = (before < MAX_LINES) × (length line ≤ MAX_LINE) × TakesNext rules state line Stands text
+
+-- why a filter stops at a line behind so many others
+abbrev pub StopsAt : {State Cause : Type 0} → Rules State Cause → ℕ → State → List ℕ → Stop Cause → Type 0
+StopsAt rules before state line (stop.Refused n cause) = (n ≡ before + 1) × RefusesLine rules before state line cause
+StopsAt rules before state line stop.Read = ⊥
+StopsAt rules before state line stop.Write = ⊥
+StopsAt rules before state line stop.NoMemory = Unit {0}
