@@ -1,89 +1,59 @@
--- A line that has an answer is not refused.
-use Rattle.std.proofs.Common.{◌≡◌, ◌⊎◌, inl, inr, ℕ, ◌+◌, ◌^◌, ◌<◌, List, [], ◌∷◌, ◌++◌, length, length-append, Option, Some, sym, ap, subst, ◌∙◌, arith, ℤ, ◌+ℤ◌, ◌≤ℤ◌}
-use Rattle.std.proofs.lemmas.Int.{ints}
+-- A line has one answer at most, and a line with an answer is not refused.
+use Rattle.std.proofs.Common.{◌≡◌, inl, inr, ℕ, List, [], ◌∷◌, refl, sym, ap, subst, ◌∙◌}
+use Rattle.line_reader.specs.Fields.{text_of}
 use Rattle.utc_value.specs.declared.Kind.{Kind}
+use Rattle.utc_value.specs.declared.Kind.TheVariants as kind
 use Rattle.utc_value.specs.Stamp.{Stamp}
 use Rattle.utc_routines.specs.declared.Order4.{Order4}
-use Rattle.utc_routines.specs.Interval.{IsEarliest, IsLatest, is_either_unspecified}
-use Rattle.utc_routines.specs.Arithmetic.{kept_tdf}
-use Rattle.utc_routines.specs.Tightest.{ArePoints, exact_at}
+use Rattle.utc_routines.proofs.OneResult.{one_sum, one_difference, one_absolute, one_multiple, one_moment, one_span, one_bound, one_first, one_interval_order, one_time_order}
 use Rattle.utc_text.specs.Civil.{IsInYears}
 use Rattle.utc_text.specs.Printing.{IsShown}
 use Rattle.utc_text.proofs.CivilLemmas.{in_years}
+use Rattle.utc_text.proofs.TextLaws.{absolute_one_text, length_one_text}
 use Rattle.utc_calculator.specs.declared.cause.UtcCause.{UtcCause}
 use Rattle.utc_calculator.specs.declared.operation.Operation.{Operation}
 use Rattle.utc_calculator.specs.declared.operation.Operation.TheVariants as op
 use Rattle.utc_calculator.specs.declared.operation.Outcome.{Outcome}
 use Rattle.utc_calculator.specs.declared.operation.Outcome.TheVariants as out
 use Rattle.utc_calculator.specs.Results.{YieldsTime, YieldsPoints, YieldsOrder, YieldsOctets, Yields, IsTextOfKind, IsTextOf, Shows, HasNoText, RefusesShowing}
-use Rattle.utc_calculator.specs.Answers.{Answers, Refuses, IsAnswered, RefusesLine, AnswerEach, AreAnswered}
-use Rattle.utc_calculator.specs.Output.{RefusesNone}
+use Rattle.utc_calculator.specs.Answers.{HasOutcome, Answers, Refuses}
 use Rattle.utc_calculator.proofs.Unique.{Spells-unique}
 use Rattle.utc_calculator.proofs.ReadRight.{reading_right}
-use Rattle.utc_calculator.proofs.Computed.{stated_unique, computed}
+use Rattle.utc_calculator.proofs.Computed.{computed}
 
--- timestamps that show the same moment or length
-record Alike (r q : Stamp) : Type 0 where
-  kind : r.kind ≡ q.kind
-  time : r.time ≡ q.time
-  tdf : r.tdf ≡ q.tdf
+-- an operation has one timestamp, three, one order or one list of octets as its result
+one_time : (o : Operation) (r q : Stamp) → YieldsTime o r → YieldsTime o q → r ≡ q
+one_time (op.Add a b) r q h k = one_sum a b r q h.0 k.0
+one_time (op.Sub a b) r q h k = one_difference a b r q h.0 k.0
+one_time (op.Abs a) r q h k = one_absolute a r q h.0 k.0
+one_time (op.Mul a n) r q h k = one_multiple a n r q h.0 k.0
+one_time (op.Span a b) r q h k = one_span a b r q h.0 k.0
+one_time (op.Bound a b) r q h k = one_bound a b r q h.0 k.0
+one_time (op.Tdf a t) r q h k = one_moment a t r q h.0 k.0
+one_time (op.Text a) r q h k = h ∙ sym k
+one_time o r q h k = absurd h
 
-one_alike : (r q : Stamp) → r ≡ q → Alike r q
-one_alike r q e = record { kind = ap (λ (s : Stamp). s.kind) e; time = ap (λ (s : Stamp). s.time) e; tdf = ap (λ (s : Stamp). s.tdf) e }
+one_three : (o : Operation) (r s t x y z : Stamp) → YieldsPoints o r s t → YieldsPoints o x y z → (r ≡ x) × (s ≡ y) × (t ≡ z)
+one_three (op.Point a) r s t x y z h k = one_first a r s t x y z h.0 k.0
+one_three o r s t x y z h k = absurd h
 
-alike_unwritten : (r q : Stamp) → Alike r q → HasNoText q → HasNoText r
-alike_unwritten r q e none = record { moment = e.kind ∙ none.moment; year = rw (e.time, e.tdf) none.year }
+one_order : (o : Operation) (x y : Order4) → YieldsOrder o x → YieldsOrder o y → x ≡ y
+one_order (op.Interval a b) x y h k = one_interval_order a b x y h.1 k.1
+one_order (op.Mid a b) x y h k = one_time_order a b x y h.1 k.1
+one_order o x y h k = absurd h
 
-some_kind : (k l : Kind) (o : Option Kind) → o ≡ Some k → o ≡ Some l → k ≡ l
-some_kind k l o h i = let both = sym h ∙ i in cc
+one_octets : (o : Operation) (xs ys : List ℕ) → YieldsOctets o xs → YieldsOctets o ys → xs ≡ ys
+one_octets (op.Bytes a) xs ys h k = h ∙ sym k
+one_octets o xs ys h k = absurd h
 
--- a timestamp that results is that of any other result in what is shown of it
-time_alike : (o : Operation) (r q : Stamp) → YieldsTime o r → YieldsTime o q → Alike r q
-time_alike (op.Add a b) r q h k = record { kind = some_kind r.kind q.kind _ h.0.kind k.0.kind; time = h.0.time ∙ sym k.0.time; tdf = h.0.tdf ∙ sym k.0.tdf }
-time_alike (op.Sub a b) r q h k =
-    let kind = some_kind r.kind q.kind _ h.0.kind k.0.kind in
-    record { kind = kind; time = h.0.time ∙ sym k.0.time; tdf = h.0.tdf ∙ ap (λ (l : Kind). kept_tdf l a.tdf) kind ∙ sym k.0.tdf }
-time_alike (op.Abs a) r q h k = one_alike r q (h.0.value ∙ sym k.0.value)
-time_alike (op.Mul a k) r q h i = record { kind = h.0.kind ∙ sym i.0.kind; time = h.0.time ∙ sym i.0.time; tdf = h.0.tdf ∙ sym i.0.tdf }
-time_alike (op.Span a b) r q h k = record {
-  kind = h.0.kind ∙ sym k.0.kind;
-  time = stated_unique (is_either_unspecified a b) _ (a.time +ℤ b.time) r.time q.time r.inaccuracy q.inaccuracy h.0.interval k.0.interval;
-  tdf = h.0.tdf ∙ sym k.0.tdf;
-}
-time_alike (op.Bound a b) r q h k = record {
-  kind = h.0.kind ∙ sym k.0.kind;
-  time = stated_unique (is_either_unspecified a b) _ (a.time +ℤ b.time) r.time q.time r.inaccuracy q.inaccuracy h.0.interval k.0.interval;
-  tdf = h.0.tdf ∙ sym k.0.tdf;
-}
-time_alike (op.Tdf a t) r q h k = one_alike r q (h.0.value ∙ sym k.0.value)
-time_alike (op.Text a) r q h k = one_alike r q (h ∙ sym k)
-time_alike o r q h k = absurd h
-
--- and so are three
-earliest_unique : (a : Stamp) (x y : ℤ) → IsEarliest a x → IsEarliest a y → x ≡ y
-earliest_unique a x y h k =
-    let to : x ≤ℤ y = h.first y k.member in
-    let from : y ≤ℤ x = k.first x h.member in
-    omega (arith, ints, to, from)
-
-latest_unique : (a : Stamp) (x y : ℤ) → IsLatest a x → IsLatest a y → x ≡ y
-latest_unique a x y h k =
-    let to : y ≤ℤ x = h.last y k.member in
-    let from : x ≤ℤ y = k.last x h.member in
-    omega (arith, ints, to, from)
-
-points_unwritten : (a r s t x y z : Stamp) → ArePoints a r s t → ArePoints a x y z → HasNoText x ⊎ (HasNoText y ⊎ HasNoText z) → HasNoText r ⊎ (HasNoText s ⊎ HasNoText t)
-points_unwritten a r s t x y z h k (inl none) =
-    inl (alike_unwritten r x (one_alike r x (h.first_only ∙ ap (exact_at a) (earliest_unique a r.time x.time h.earliest k.earliest) ∙ sym k.first_only)) none)
-points_unwritten a r s t x y z h k (inr (inl none)) = inr (inl (alike_unwritten s y (one_alike s y (h.middle_only ∙ sym k.middle_only)) none))
-points_unwritten a r s t x y z h k (inr (inr none)) =
-    inr (inr (alike_unwritten t z (one_alike t z (h.last_only ∙ ap (exact_at a) (latest_unique a t.time z.time h.latest k.latest) ∙ sym k.last_only)) none))
-
-three_unwritten : (o : Operation) (r s t x y z : Stamp) → YieldsPoints o r s t → YieldsPoints o x y z → HasNoText x ⊎ (HasNoText y ⊎ HasNoText z) → HasNoText r ⊎ (HasNoText s ⊎ HasNoText t)
-three_unwritten (op.Point a) r s t x y z h k none = points_unwritten a r s t x y z h.0 k.0 none
-three_unwritten o r s t x y z h k none = absurd h
+abbrev outcome_of : Stamp → Stamp → Stamp → Outcome
+outcome_of x y z = out.Points x y z
 
 -- one operation has results of one form
+order_or_octets : (o : Operation) (order : Order4) (octets : List ℕ) → YieldsOrder o order → YieldsOctets o octets → ⊥
+order_or_octets (op.Bytes a) order octets h k = h
+order_or_octets o order octets h k = k
+
 time_or_points : (o : Operation) (r x y z : Stamp) → YieldsTime o r → YieldsPoints o x y z → ⊥
 time_or_points (op.Point a) r x y z h k = h
 time_or_points o r x y z h k = k
@@ -105,18 +75,27 @@ points_or_octets : (o : Operation) (x y z : Stamp) (octets : List ℕ) → Yield
 points_or_octets (op.Point a) x y z octets h k = k
 points_or_octets o x y z octets h k = h
 
--- where one result of an operation has no text, each has none
-unwritten : (o : Operation) (p q : Outcome) → Yields o p → Yields o q → RefusesShowing q → RefusesShowing p
-unwritten o (out.Time r) (out.Time q) h k none = alike_unwritten r q (time_alike o r q h k) none
-unwritten o (out.Points r s t) (out.Time q) h k none = absurd (time_or_points o q r s t k h)
-unwritten o (out.Order order) (out.Time q) h k none = absurd (time_or_order o q order k h)
-unwritten o (out.Octets octets) (out.Time q) h k none = absurd (time_or_octets o q octets k h)
-unwritten o (out.Points r s t) (out.Points x y z) h k none = three_unwritten o r s t x y z h k none
-unwritten o (out.Time r) (out.Points x y z) h k none = absurd (time_or_points o r x y z h k)
-unwritten o (out.Order order) (out.Points x y z) h k none = absurd (points_or_order o x y z order k h)
-unwritten o (out.Octets octets) (out.Points x y z) h k none = absurd (points_or_octets o x y z octets k h)
-unwritten o p (out.Order order) h k none = absurd none
-unwritten o p (out.Octets octets) h k none = absurd none
+three_outcomes : (r s t x y z : Stamp) → r ≡ x → s ≡ y → t ≡ z → outcome_of r s t ≡ outcome_of x y z
+three_outcomes r s t x y z e f g = rw (e, f, g) refl
+
+-- an operation has one outcome
+pub one_outcome : (o : Operation) (p q : Outcome) → Yields o p → Yields o q → p ≡ q
+one_outcome o (out.Time r) (out.Time q) h k = ap (λ (x : Stamp). out.Time x) (one_time o r q h k)
+one_outcome o (out.Points r s t) (out.Time q) h k = absurd (time_or_points o q r s t k h)
+one_outcome o (out.Order order) (out.Time q) h k = absurd (time_or_order o q order k h)
+one_outcome o (out.Octets octets) (out.Time q) h k = absurd (time_or_octets o q octets k h)
+one_outcome o (out.Points r s t) (out.Points x y z) h k = let same = one_three o r s t x y z h k in three_outcomes r s t x y z same.0 same.1 same.2
+one_outcome o (out.Time r) (out.Points x y z) h k = absurd (time_or_points o r x y z h k)
+one_outcome o (out.Order order) (out.Points x y z) h k = absurd (points_or_order o x y z order k h)
+one_outcome o (out.Octets octets) (out.Points x y z) h k = absurd (points_or_octets o x y z octets k h)
+one_outcome o (out.Order x) (out.Order y) h k = ap (λ (z : Order4). out.Order z) (one_order o x y h k)
+one_outcome o (out.Time r) (out.Order y) h k = absurd (time_or_order o r y h k)
+one_outcome o (out.Points x y z) (out.Order order) h k = absurd (points_or_order o x y z order h k)
+one_outcome o (out.Octets octets) (out.Order order) h k = absurd (order_or_octets o order octets k h)
+one_outcome o (out.Octets xs) (out.Octets ys) h k = ap (λ (zs : List ℕ). out.Octets zs) (one_octets o xs ys h k)
+one_outcome o (out.Time r) (out.Octets octets) h k = absurd (time_or_octets o r octets h k)
+one_outcome o (out.Points x y z) (out.Octets octets) h k = absurd (points_or_octets o x y z octets h k)
+one_outcome o (out.Order order) (out.Octets octets) h k = absurd (order_or_octets o order octets h k)
 
 -- what has a text is written
 time_written : (s : Stamp) (text : List ℕ) → IsTextOf s text → HasNoText s → ⊥
@@ -132,6 +111,12 @@ written (out.Points x y z) text h (inr (inr none)) = time_written z h.z h.of_las
 written (out.Order order) text h none = none
 written (out.Octets octets) text h none = none
 
+-- a line has one outcome
+line_outcome : (line : List ℕ) (p q : Outcome) → HasOutcome line p → HasOutcome line q → p ≡ q
+line_outcome line p q h k =
+    let same = Spells-unique line k.operation h.operation k.spelled h.spelled in
+    one_outcome h.operation p q h.yields (rw same at k.yields)
+
 -- no line that has an answer is refused
 pub not_both : (line text : List ℕ) (c : UtcCause) → Answers line text → Refuses line c → ⊥
 not_both line text c answer (inl refused) = reading_right line answer.has.operation c answer.has.spelled refused
@@ -139,22 +124,31 @@ not_both line text c answer (inr (inl refused)) =
     let same = Spells-unique line refused.operation answer.has.operation refused.spelled answer.has.spelled in
     computed answer.has.operation answer.outcome refused.fault answer.has.yields (rw same at refused.refused)
 not_both line text c answer (inr (inr refused)) =
-    let same = Spells-unique line refused.has.operation answer.has.operation refused.has.spelled answer.has.spelled in
-    written answer.outcome text answer.shown (unwritten answer.has.operation answer.outcome refused.outcome answer.has.yields (rw same at refused.has.yields) refused.refused)
+    written answer.outcome text answer.shown (subst RefusesShowing (line_outcome line refused.outcome answer.outcome refused.has answer.has) refused.refused)
 
--- each of the lines is answered
-each_at : (front : List (List ℕ)) (line : List ℕ) (rest : List (List ℕ)) (text : List ℕ) → AnswerEach (front ++ line ∷ rest) text → (answer : List ℕ) × IsAnswered line answer
-each_at [] line rest text (answer, more, is, each, all) = (answer, is)
-each_at (first ∷ front) line rest text (answer, more, is, each, all) = each_at front line rest more each
+-- ---- one text of an outcome
 
--- an answered line with a number that lines have is not refused at it
-not_refused : (n : ℕ) (line text : List ℕ) (c : UtcCause) → n < 2 ^ 32 → IsAnswered line text → RefusesLine n line c → ⊥
-not_refused n line text c few is (inl (many, at)) = omega (arith, few, many)
-not_refused n line text c few is (inr (inl (below, long, at))) = omega (arith, long, is.short)
-not_refused n line text c few is (inr (inr (below, short, refuses))) = not_both line text c is.answers refuses
+text_of_kind : (k : Kind) (s : Stamp) (text other : List ℕ) → IsTextOfKind k s text → IsTextOfKind k s other → text ≡ other
+text_of_kind kind.Absolute s text other h k = absolute_one_text s.time s.tdf s.inaccuracy text other h k
+text_of_kind kind.Relative s text other h k = length_one_text s.time s.inaccuracy text other h k
 
--- no line of lines that all have an answer is refused
-pub none_refused : (lines : List (List ℕ)) (text : List ℕ) → AreAnswered lines text → RefusesNone lines
-none_refused lines text are = λ front line rest c all refuses.
-    let at = each_at front line rest text (subst (λ ls. AnswerEach ls text) all are.each) in
-    not_refused (length front + 1) line at.0 c (omega (arith, are.few, ap length all, length-append front (line ∷ rest))) at.1 refuses
+one_text_of : (s : Stamp) (text other : List ℕ) → IsTextOf s text → IsTextOf s other → text ≡ other
+one_text_of s text other h k = text_of_kind s.kind s text other h k
+
+three_joined : (a b c x y z : List ℕ) → a ≡ x → b ≡ y → c ≡ z → text_of (a ∷ b ∷ c ∷ []) ≡ text_of (x ∷ y ∷ z ∷ [])
+three_joined a b c x y z e f g = rw (e, f, g) refl
+
+one_shown : (p : Outcome) (text other : List ℕ) → Shows p text → Shows p other → text ≡ other
+one_shown (out.Time r) text other h k = one_text_of r text other h k
+one_shown (out.Points x y z) text other h k =
+    h.joined
+    ∙ three_joined h.x h.y h.z k.x k.y k.z (one_text_of x h.x k.x h.of_first k.of_first) (one_text_of y h.y k.y h.of_middle k.of_middle)
+    (one_text_of z h.z k.z h.of_last k.of_last)
+    ∙ sym k.joined
+one_shown (out.Order order) text other h k = h ∙ sym k
+one_shown (out.Octets octets) text other h k = h ∙ sym k
+
+-- a line has one answer
+pub one_answer : (line text other : List ℕ) → Answers line text → Answers line other → text ≡ other
+one_answer line text other h k =
+    one_shown h.outcome text other h.shown (subst (λ (p : Outcome). Shows p other) (line_outcome line k.outcome h.outcome k.has h.has) k.shown)

@@ -1,9 +1,8 @@
-pub mod Numbers
 pub mod Operands
-pub mod AnswerFacts
-pub mod Stepping
 pub mod Unique
 pub mod ReadRight
 pub mod Computed
 pub mod Exclusive
 pub mod OneCause
+pub mod AnswerFacts
+pub mod Settled

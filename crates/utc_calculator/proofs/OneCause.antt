@@ -1,37 +1,39 @@
 -- A refused line has one cause.
-use Rattle.std.proofs.Common.{◌≡◌, ◌⊎◌, inl, inr, ℕ, List, [], ◌∷◌, map, Option, Some, None, Result, Err, IsSome, refl, sym, ap, subst, ◌∙◌, ℤ}
-use Rattle.utc_value.specs.declared.Kind.{Kind}
+use Rattle.std.proofs.Common.{◌≡◌, ◌⊎◌, inl, inr, ℕ, Bool, cond, List, [], ◌∷◌, map, refl, sym, ap, subst, ◌∙◌}
 use Rattle.utc_value.specs.declared.BytesFault.{BytesFault}
-use Rattle.utc_value.specs.declared.BytesFault.TheVariants as bytes
-use Rattle.utc_value.specs.Stamp.{Stamp}
-use Rattle.utc_value.specs.Octets.{IsVersion}
+use Rattle.utc_value.specs.Octets.{RefusesOctets}
+use Rattle.utc_value.proofs.OctetLaws.{one_fault as bytes_fault}
+use Rattle.utc_text.proofs.TextLaws.{absolute_one_fault, relative_one_fault}
+use Rattle.utc_routines.proofs.Refusals.{sum_fault, difference_fault, absolute_fault, product_fault, tdf_fault, unlike_fault, bound_fault, points_fault}
 use Rattle.utc_text.specs.declared.fault.TextFault.{TextFault}
 use Rattle.utc_routines.specs.declared.UtcFault.{UtcFault}
-use Rattle.utc_routines.specs.declared.UtcFault.TheVariants.{Kinds, Overflow, OutOfOrder, Unspecified, TdfRange}
-use Rattle.utc_routines.specs.Arithmetic.{sum_kind, RefusesSum, difference_kind, RefusesDifference, RefusesAbsolute, RefusesProduct, RefusesTdf}
-use Rattle.utc_routines.specs.Comparison.{RefusesUnlike}
-use Rattle.utc_routines.specs.Tightest.{RefusesBound, RefusesPoints}
 use Rattle.utc_calculator.specs.declared.cause.UtcCause.{UtcCause}
 use Rattle.utc_calculator.specs.declared.cause.UtcCause.TheVariants as cause
 use Rattle.utc_calculator.specs.declared.operation.Operation.{Operation}
 use Rattle.utc_calculator.specs.declared.operation.Operation.TheVariants as op
-use Rattle.utc_calculator.specs.Operations.{Operand, Octets, OperandKind, TimeKind, NumberKind, MinutesKind, OctetsKind, kind_of, operands_of, HasOperand, IsWrong, IsNextWrong, IsLeftOver, IsFirstWrong, IsUnknown, RefusesOctets, HasWrongOperand, HasWrongOctets, RefusesFields, RefusesReading}
+use Rattle.utc_calculator.specs.Operations.{Operand, Octets, OperandKind, TimeKind, NumberKind, MinutesKind, OctetsKind, kind_of, operands_of, HasOperand, IsWrong, IsNextWrong, IsLeftOver, IsFirstWrong, IsUnknown, IsNoTime, is_relative_form, HasWrongOperand, HasWrongOctets, RefusesFields, RefusesReading}
 use Rattle.utc_calculator.specs.Results.{RefusesRoutine}
 use Rattle.utc_calculator.specs.Answers.{RefusesComputing, RefusesPrinting, Refuses}
 use Rattle.utc_calculator.proofs.Operands.{any}
 use Rattle.utc_calculator.proofs.Unique.{same_kinds, same_operands, Spells-unique}
 use Rattle.utc_calculator.proofs.ReadRight.{next_right, all_right, reading_right}
-use Rattle.utc_calculator.proofs.Computed.{absolute_or_relative, computed}
+use Rattle.utc_calculator.proofs.Computed.{computed}
 
-abbrev failed : TextFault → Result Stamp TextFault
-failed fault = Err fault
+-- a text that is no time has one fault
+chosen : (second : Bool) (a a' b b' : TextFault) → a ≡ a' → b ≡ b' → cond second b a ≡ cond second b' a'
+chosen second a a' b b' e f = rw (e, f) refl
 
-fault_is : (e f : TextFault) → failed e ≡ failed f → e ≡ f
-fault_is e f h = cc
+one_text : (text : List ℕ) (x y : TextFault) → IsNoTime text x → IsNoTime text y → x ≡ y
+one_text text x y h k =
+    h.told
+    ∙ chosen (is_relative_form text) h.absolute k.absolute h.relative k.relative
+    (absolute_one_fault text h.absolute k.absolute h.as_absolute k.as_absolute)
+    (relative_one_fault text h.relative k.relative h.as_relative k.as_relative)
+    ∙ sym k.told
 
 -- a field that is wrong as an operand of a kind has one cause
 one_wrong : (kind : OperandKind) (field : List ℕ) (c d : UtcCause) → IsWrong kind field c → IsWrong kind field d → c ≡ d
-one_wrong TimeKind field c d (fault, e, is) (other, f, at) = is ∙ ap (λ (x : TextFault). cause.Text x) (fault_is fault other (sym e ∙ f)) ∙ sym at
+one_wrong TimeKind field c d (fault, e, is) (other, f, at) = is ∙ ap (λ (x : TextFault). cause.Text x) (one_text field fault other e f) ∙ sym at
 one_wrong NumberKind field c d h k = h.1 ∙ sym k.1
 one_wrong MinutesKind field c d h k = h.1 ∙ sym k.1
 one_wrong OctetsKind field c d h k = h.1 ∙ sym k.1
@@ -70,17 +72,11 @@ one_operand word fields c d (o, e, h) (p, f, k) =
     one_first (map kind_of (operands_of o)) fields c d h (subst (λ (kinds : List OperandKind). IsFirstWrong kinds fields d) (same_kinds p o (f ∙ sym e)) k)
 
 -- octets that are no timestamp have one fault
-one_bytes : (octets : List ℕ) (f g : BytesFault) → RefusesOctets octets f → RefusesOctets octets g → f ≡ g
-one_bytes octets (bytes.Version m) (bytes.Version n) h k = ap (λ (x : ℕ). bytes.Version x) (h.0 ∙ sym k.0)
-one_bytes octets (bytes.Version m) (bytes.Tdf t) h k = absurd (h.1 (subst IsVersion (sym h.0) k.1))
-one_bytes octets (bytes.Tdf t) (bytes.Version m) h k = absurd (k.1 (subst IsVersion (sym k.0) h.1))
-one_bytes octets (bytes.Tdf t) (bytes.Tdf u) h k = ap (λ (x : ℤ). bytes.Tdf x) (h.0 ∙ sym k.0)
-
 one_octets : (word : List ℕ) (fields : List (List ℕ)) (c d : UtcCause) → HasWrongOctets word fields c → HasWrongOctets word fields d → c ≡ d
 one_octets word fields c d (octets, f, _, read, h, is) (others, g, _, read', k, at) =
     let same = same_operands fields (Octets octets ∷ []) (Octets others ∷ []) refl read read' in
     let given : others ≡ octets = cc in
-    is ∙ ap (λ (x : BytesFault). cause.Bytes x) (one_bytes octets f g h (subst (λ (xs : List ℕ). RefusesOctets xs g) given k)) ∙ sym at
+    is ∙ ap (λ (x : BytesFault). cause.Bytes x) (bytes_fault octets f g h (subst (λ (xs : List ℕ). RefusesOctets xs g) given k)) ∙ sym at
 
 -- they are right as an operand
 operand_or_octets : (word : List ℕ) (fields : List (List ℕ)) (c d : UtcCause) → HasWrongOperand word fields c → HasWrongOctets word fields d → ⊥
@@ -111,96 +107,18 @@ one_reading line c d (word, fields, cut, h) (word', fields', cut', k) =
     let same : fields' ≡ fields = cc in
     one_fields word fields c d h (rw (words, same) at k)
 
-no_kind : (o : Option Kind) → o ≡ None → IsSome o → ⊥
-no_kind None e h = cc
-no_kind (Some k) e h = cc
-
 -- each routine refuses operands with one fault
-one_sum : (a b : Stamp) (f g : UtcFault) → RefusesSum a b f → RefusesSum a b g → f ≡ g
-one_sum a b Kinds Kinds h k = refl
-one_sum a b Kinds Overflow h k = absurd (no_kind (sum_kind a.kind b.kind) h k.0)
-one_sum a b Overflow Kinds h k = absurd (no_kind (sum_kind a.kind b.kind) k h.0)
-one_sum a b Overflow Overflow h k = refl
-one_sum a b Kinds g h k = absurd k
-one_sum a b Overflow g h k = absurd k
-one_sum a b f g h k = absurd h
-
-one_difference : (a b : Stamp) (f g : UtcFault) → RefusesDifference a b f → RefusesDifference a b g → f ≡ g
-one_difference a b Kinds Kinds h k = refl
-one_difference a b Kinds Overflow h k = absurd (no_kind (difference_kind a.kind b.kind) h k.0)
-one_difference a b Overflow Kinds h k = absurd (no_kind (difference_kind a.kind b.kind) k h.0)
-one_difference a b Overflow Overflow h k = refl
-one_difference a b Kinds g h k = absurd k
-one_difference a b Overflow g h k = absurd k
-one_difference a b f g h k = absurd h
-
-one_absolute : (a : Stamp) (f g : UtcFault) → RefusesAbsolute a f → RefusesAbsolute a g → f ≡ g
-one_absolute a Kinds Kinds h k = refl
-one_absolute a Kinds Overflow h k = absurd (absolute_or_relative a.kind h k.0)
-one_absolute a Overflow Kinds h k = absurd (absolute_or_relative a.kind k h.0)
-one_absolute a Overflow Overflow h k = refl
-one_absolute a Kinds g h k = absurd k
-one_absolute a Overflow g h k = absurd k
-one_absolute a f g h k = absurd h
-
-one_product : (a : Stamp) (n : ℤ) (f g : UtcFault) → RefusesProduct a n f → RefusesProduct a n g → f ≡ g
-one_product a n Kinds Kinds h k = refl
-one_product a n Kinds Overflow h k = absurd (absolute_or_relative a.kind h k.0)
-one_product a n Overflow Kinds h k = absurd (absolute_or_relative a.kind k h.0)
-one_product a n Overflow Overflow h k = refl
-one_product a n Kinds g h k = absurd k
-one_product a n Overflow g h k = absurd k
-one_product a n f g h k = absurd h
-
-one_tdf : (a : Stamp) (t : ℤ) (f g : UtcFault) → RefusesTdf a t f → RefusesTdf a t g → f ≡ g
-one_tdf a t Kinds Kinds h k = refl
-one_tdf a t Kinds TdfRange h k = absurd (absolute_or_relative a.kind k.0 h)
-one_tdf a t TdfRange Kinds h k = absurd (absolute_or_relative a.kind h.0 k)
-one_tdf a t TdfRange TdfRange h k = refl
-one_tdf a t Kinds g h k = absurd k
-one_tdf a t TdfRange g h k = absurd k
-one_tdf a t f g h k = absurd h
-
-one_unlike : (a b : Stamp) (f g : UtcFault) → RefusesUnlike a b f → RefusesUnlike a b g → f ≡ g
-one_unlike a b Kinds Kinds h k = refl
-one_unlike a b Kinds g h k = absurd k
-one_unlike a b f g h k = absurd h
-
-one_bound : (a b : Stamp) (f g : UtcFault) → RefusesBound a b f → RefusesBound a b g → f ≡ g
-one_bound a b Kinds Kinds h k = refl
-one_bound a b Kinds OutOfOrder h k = absurd (h k.0)
-one_bound a b Kinds Overflow h k = absurd (h k.0)
-one_bound a b OutOfOrder Kinds h k = absurd (k h.0)
-one_bound a b OutOfOrder OutOfOrder h k = refl
-one_bound a b OutOfOrder Overflow h k = absurd (k.1 h.1)
-one_bound a b Overflow Kinds h k = absurd (k h.0)
-one_bound a b Overflow OutOfOrder h k = absurd (h.1 k.1)
-one_bound a b Overflow Overflow h k = refl
-one_bound a b Kinds g h k = absurd k
-one_bound a b OutOfOrder g h k = absurd k
-one_bound a b Overflow g h k = absurd k
-one_bound a b f g h k = absurd h
-
-one_points : (a : Stamp) (f g : UtcFault) → RefusesPoints a f → RefusesPoints a g → f ≡ g
-one_points a Unspecified Unspecified h k = refl
-one_points a Unspecified Overflow h k = absurd (k.0 h)
-one_points a Overflow Unspecified h k = absurd (h.0 k)
-one_points a Overflow Overflow h k = refl
-one_points a Unspecified g h k = absurd k
-one_points a Overflow g h k = absurd k
-one_points a f g h k = absurd h
-
 one_fault : (o : Operation) (f g : UtcFault) → RefusesRoutine o f → RefusesRoutine o g → f ≡ g
-one_fault (op.Add a b) f g h k = one_sum a b f g h k
-one_fault (op.Sub a b) f g h k = one_difference a b f g h k
-one_fault (op.Abs a) f g h k = one_absolute a f g h k
-one_fault (op.Mul a n) f g h k = one_product a n f g h k
-one_fault (op.Span a b) f g h k = one_unlike a b f g h k
-one_fault (op.Bound a b) f g h k = one_bound a b f g h k
-one_fault (op.Tdf a t) f g h k = one_tdf a t f g h k
-one_fault (op.Interval a b) f g h k = one_unlike a b f g h k
-one_fault (op.Mid a b) f g h k = one_unlike a b f g h k
-one_fault (op.Point a) f g h k = one_points a f g h k
+one_fault (op.Add a b) f g h k = sum_fault a b f g h k
+one_fault (op.Sub a b) f g h k = difference_fault a b f g h k
+one_fault (op.Abs a) f g h k = absolute_fault a f g h k
+one_fault (op.Mul a n) f g h k = product_fault a n f g h k
+one_fault (op.Span a b) f g h k = unlike_fault a b f g h k
+one_fault (op.Bound a b) f g h k = bound_fault a b f g h k
+one_fault (op.Tdf a t) f g h k = tdf_fault a t f g h k
+one_fault (op.Interval a b) f g h k = unlike_fault a b f g h k
+one_fault (op.Mid a b) f g h k = unlike_fault a b f g h k
+one_fault (op.Point a) f g h k = points_fault a f g h k
 one_fault (op.Bytes a) f g h k = absurd h
 one_fault (op.Text a) f g h k = absurd h
 

@@ -1,12 +1,11 @@
 -- Which field is the first that is not right.
-use Rattle.std.proofs.Common.{◌≡◌, ◌⊎◌, inl, inr, ℕ, ℤ, pos, List, [], ◌∷◌, map, codes, None, Result, Ok, Err, MatchResult, IfErr, IsOkAnd, IsErrAnd, ◌↔◌, refl, sym, ap, length, arith}
+use Rattle.std.proofs.Common.{◌≡◌, ◌⊎◌, inl, inr, ℕ, pos, List, [], ◌∷◌, map, codes, None, Result, Ok, Err, MatchResult, IfErr, IsOkAnd, IsErrAnd, ◌↔◌, refl, sym, ap, length, arith}
 use Rattle.std.specs.Prelude.{◌==◌}
 use Rattle.std.proofs.lemmas.List.Splits.{length-slice_split}
-use Rattle.dts_capture.specs.Fields.{fields_of}
+use Rattle.line_reader.specs.Fields.{fields_of}
 use Rattle.utc_value.specs.declared.BytesFault.{BytesFault}
-use Rattle.utc_value.specs.declared.BytesFault.TheVariants as bytes
 use Rattle.utc_value.specs.Stamp.{Stamp, absolute_stamp}
-use Rattle.utc_value.specs.Octets.{version_in, tdf_in, IsVersion, IsTdfOfVersion}
+use Rattle.utc_value.specs.Octets.{RefusesOctets}
 use Rattle.utc_calculator.specs.declared.cause.UtcCause.{UtcCause}
 use Rattle.utc_calculator.specs.declared.cause.UtcCause.TheVariants as cause
 use Rattle.utc_calculator.specs.declared.operation.Operation.{Operation}
@@ -37,13 +36,11 @@ mapped (Err e) m F Q R w h q = rw h (w e q)
 
 -- octets that are no timestamp are refused as such
 pub octets_refused : (octets : List ℕ) (fields : List (List ℕ)) (r : Result Stamp BytesFault) (m : Result Stamp UtcCause) (L : UtcCause → Type 0) → ReadEach fields (Octets octets ∷ [])
-    → ((found : ℕ) → (r ≡ Err (bytes.Version found)) ↔ ((found ≡ version_in octets) × (¬ IsVersion found)))
-    → ((found : ℤ) → (r ≡ Err (bytes.Tdf found)) ↔ ((found ≡ tdf_in octets) × IsVersion (version_in octets) × (¬ IsTdfOfVersion (version_in octets) found)))
+    → ((fault : BytesFault) → (r ≡ Err fault) ↔ RefusesOctets octets fault)
     → MatchResult r (λ x. m ≡ Ok x) (λ e. IsErrAnd m (λ c. c ≡ cause.Bytes e)) → IfErr m (λ c. L c ⊎ HasWrongOctets (codes "text") fields c)
-octets_refused octets fields (Ok s) m L read version tdf cases = rw cases tt
-octets_refused octets fields (Err fault) (Ok s) L read version tdf cases = absurd cases
-octets_refused octets fields (Err (bytes.Version found)) (Err c) L read version tdf cases = inr (octets, bytes.Version found, refl, read, (version found).0 refl, cases)
-octets_refused octets fields (Err (bytes.Tdf found)) (Err c) L read version tdf cases = inr (octets, bytes.Tdf found, refl, read, (tdf found).0 refl, cases)
+octets_refused octets fields (Ok s) m L read refuses cases = rw cases tt
+octets_refused octets fields (Err fault) (Ok s) L read refuses cases = absurd cases
+octets_refused octets fields (Err fault) (Err c) L read refuses cases = inr (octets, fault, refl, read, (refuses fault).0 refl, cases)
 
 -- a line has a first field
 pub has_word : (line : List ℕ) → fields_of line ≡ [] → ⊥

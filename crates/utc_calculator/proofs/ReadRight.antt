@@ -1,47 +1,57 @@
 -- A line that asks for an operation is not refused in reading.
-use Rattle.std.proofs.Common.{◌≡◌, inl, inr, ℕ, List, [], ◌∷◌, map, length, codes, Ok, refl, sym, ap, ◌∙◌, arith, ℤ, pos, negsuc, FitsSigned, w16, w32}
-use Rattle.std.specs.Fmt.{signed_decimal}
-use Rattle.std.proofs.lemmas.Fmt.{decimal_nonempty}
+use Rattle.std.proofs.Common.{◌≡◌, ◌⊎◌, inl, inr, ℕ, List, [], ◌∷◌, map, codes, Result, Ok, refl, sym, ◌∙◌, arith, ℤ, pos, negsuc}
 use Rattle.utc_value.specs.declared.BytesFault.{BytesFault}
-use Rattle.utc_value.specs.declared.BytesFault.TheVariants as bytes
-use Rattle.utc_value.specs.Stamp.{Stamp, IsInRange}
-use Rattle.utc_value.specs.Octets.{octets_of}
-use Rattle.utc_value.proofs.OctetLemmas.{version_is_one, allowed_by_version}
-use Rattle.utc_text.specs.Texts.{absolute_of, relative_of}
-use Rattle.utc_text.specs.Reading.{moment_of, length_of, date_of, right_at, sign_at}
+use Rattle.utc_value.specs.Stamp.{Stamp}
+use Rattle.utc_value.specs.Octets.{octets_of, RefusesOctets}
+use Rattle.utc_value.proofs.OctetLaws.{octets_right}
+use Rattle.line_reader.specs.Numbers.{IsWhole}
+use Rattle.utc_text.specs.declared.fault.TextFault.{TextFault}
+use Rattle.utc_text.specs.Texts.{SpellsAbsolute, SpellsRelative}
+use Rattle.utc_text.proofs.ReadLaws.{absolute_only, relative_only}
+use Rattle.utc_text.proofs.TextLaws.{absolute_not_both, relative_not_both}
+use Rattle.utc_text.specs.Reading.{absolute_of, relative_of, moment_of, length_of, date_of, right_at, sign_at}
 use Rattle.utc_text.specs.Reading as reading
 use Rattle.utc_text.specs.Fields.{year_at, two_digits, days_at, digits_at}
 use Rattle.utc_calculator.specs.declared.cause.UtcCause.{UtcCause}
 use Rattle.utc_calculator.specs.declared.operation.Operation.{Operation}
 use Rattle.utc_calculator.specs.declared.operation.Operation.TheVariants as op
-use Rattle.utc_calculator.specs.Operations.{Operand, Time, Number, Minutes, Octets, OperandKind, TimeKind, OctetsKind, kind_of, word_of, operands_of, time_of, Reads, ReadEach, IsOfTimestamp, Spells, IsNextWrong, IsFirstWrong, RefusesOctets, RefusesFields, RefusesReading}
+use Rattle.utc_calculator.specs.Operations.{Operand, Time, Number, Minutes, Octets, OperandKind, TimeKind, OctetsKind, kind_of, word_of, operands_of, Reads, ReadEach, IsOfTimestamp, Spells, IsNoTime, IsNextWrong, IsFirstWrong, RefusesFields, RefusesReading}
 use Rattle.utc_calculator.proofs.Operands.{any}
-use Rattle.utc_calculator.proofs.Unique.{octets_version, octets_tdf, same_kinds, same_operands}
+use Rattle.utc_calculator.proofs.Unique.{same_kinds, same_operands}
 
 -- no octets are no time
-no_time : (s : Stamp) → time_of [] ≡ Ok s → ⊥
-unfolding absolute_of relative_of moment_of length_of date_of right_at sign_at reading.time_of year_at two_digits days_at digits_at
-no_time s e = cc
+abbrev read : Stamp → Result Stamp TextFault
+read s = Ok s
+
+no_absolute : (s : Stamp) → SpellsAbsolute [] s → ⊥
+unfolding absolute_of moment_of date_of right_at year_at two_digits
+no_absolute s h = let e : absolute_of [] ≡ read s = absolute_only [] s h in cc
+
+no_relative : (s : Stamp) → SpellsRelative [] s → ⊥
+unfolding relative_of length_of right_at sign_at reading.time_of days_at digits_at
+no_relative s h = let e : relative_of [] ≡ read s = relative_only [] s h in cc
 
 -- and no number
-no_number : (k : ℤ) → FitsSigned w32 k → [] ≡ signed_decimal k → ⊥
-no_number (pos n) h e = omega (arith, ap length e, decimal_nonempty n (omega (arith, h.sfits)))
-no_number (negsuc n) h e = cc
-
-no_minutes : (t : ℤ) → FitsSigned w16 t → [] ≡ signed_decimal t → ⊥
-no_minutes (pos n) h e = omega (arith, ap length e, decimal_nonempty n (omega (arith, h.sfits)))
-no_minutes (negsuc n) h e = cc
+no_number : (k : ℤ) → IsWhole [] k → ⊥
+no_number (pos n) h = omega (arith, h.some)
+no_number (negsuc n) (digits, e, _) = absurd cc
 
 no_operand : (x : Operand) → Reads [] x → ⊥
-no_operand (Time s) h = no_time s h
-no_operand (Number k) h = no_number k h.1 h.0
-no_operand (Minutes t) h = no_minutes t h.1 h.0
-no_operand (Octets octets) h = cc
+no_operand (Time s) (inl h) = no_absolute s h
+no_operand (Time s) (inr h) = no_relative s h
+no_operand (Number k) h = no_number k h.0
+no_operand (Minutes t) h = no_number t h.0
+no_operand (Octets octets) h = absurd cc
+
+-- a time is no text that is told of as none
+no_fault : (field : List ℕ) (s : Stamp) (fault : TextFault) → SpellsAbsolute field s ⊎ SpellsRelative field s → IsNoTime field fault → ⊥
+no_fault field s fault (inl h) wrong = absolute_not_both field s wrong.absolute h wrong.as_absolute
+no_fault field s fault (inr h) wrong = relative_not_both field s wrong.relative h wrong.as_relative
 
 -- a field that is right as an operand is not wrong
 pub next_right : (x : Operand) (field : List ℕ) (fields : List (List ℕ)) (c : UtcCause) → Reads field x → IsNextWrong (kind_of x) (field ∷ fields) c → ⊥
 next_right x [] fields c h wrong = no_operand x h
-next_right (Time s) (octet ∷ octets) fields c h (fault, e, _) = let both = sym h ∙ e in cc
+next_right (Time s) (octet ∷ octets) fields c h (fault, wrong, _) = no_fault (octet ∷ octets) s fault h wrong
 next_right (Number k) (octet ∷ octets) fields c h (never, _) = never k h
 next_right (Minutes t) (octet ∷ octets) fields c h (never, _) = never t h
 next_right (Octets read) (octet ∷ octets) fields c h (never, _) = never read h
@@ -54,11 +64,6 @@ all_right (x ∷ xs) (field ∷ fields) c h (inl wrong) = next_right x field fie
 all_right (x ∷ xs) (field ∷ fields) c h (inr (y, rest, kind, (first, cut, read), wrong)) =
     let same : fields ≡ rest = cc in
     all_right xs rest c (rw same at h.1) wrong
-
--- the octets of a timestamp are one
-octets_right : (a : Stamp) (fault : BytesFault) → IsInRange a → RefusesOctets (octets_of a) fault → ⊥
-octets_right a (bytes.Version found) h refused = refused.1 (rw (refused.0, octets_version a h) (version_is_one a.kind))
-octets_right a (bytes.Tdf found) h refused = refused.2 (rw (octets_version a h, refused.0, octets_tdf a h) ((allowed_by_version a.kind a.tdf).0 h.tdf_fits))
 
 -- the other operations begin with a time
 no_octets : (kinds : List OperandKind) → TimeKind ∷ kinds ≡ OctetsKind ∷ [] → ⊥

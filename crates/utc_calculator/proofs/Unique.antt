@@ -1,46 +1,17 @@
 -- A line asks for one operation at most.
-use Rattle.std.proofs.Common.{◌≡◌, ℕ, ◌^◌, ◌<◌, nat_eq, if◌then◌else◌, List, [], ◌∷◌, map, codes, Result, Ok, refl, sym, ap, subst, ◌∙◌, arith, ℤ, pos, negsuc}
+use Rattle.std.proofs.Common.{◌≡◌, ◌⊎◌, inl, inr, ℕ, nat_eq, if◌then◌else◌, List, [], ◌∷◌, map, codes, Result, Ok, refl, sym, ap, subst, ◌∙◌, ℤ, pos}
 use Rattle.std.specs.List.{starts_with}
-use Rattle.std.proofs.lemmas.Int.{ints}
-use Rattle.std.proofs.lemmas.Fmt.{signed_decimal_injective}
 use Rattle.hex.specs.declared.error.FromHexError.{FromHexError}
-use Rattle.utc_text.specs.declared.fault.TextFault.{TextFault}
-use Rattle.utc_value.specs.declared.Kind.{Kind}
-use Rattle.utc_value.specs.declared.Kind.TheVariants.{Absolute, Relative}
-use Rattle.utc_value.specs.Stamp.{Stamp, IsInRange, IsTdf, IsTdfOf}
-use Rattle.utc_value.specs.Octets.{octets_of, twos_complement, version_of, version_in, tdf_in}
-use Rattle.utc_value.proofs.OctetLemmas.{gives_parts, same_last, read_is_given}
+use Rattle.utc_value.specs.Stamp.{Stamp, IsInRange}
+use Rattle.utc_value.specs.Octets.{octets_of}
+use Rattle.utc_value.proofs.OctetLaws.{same_octets}
+use Rattle.line_reader.proofs.Decimals.{one_number}
+use Rattle.utc_text.proofs.TextLaws.{absolute_one_value, relative_one_value, no_text_is_both}
+use Rattle.utc_text.specs.Texts.{SpellsAbsolute, SpellsRelative}
 use Rattle.utc_calculator.specs.declared.operation.Operation.{Operation}
 use Rattle.utc_calculator.specs.declared.operation.Operation.TheVariants as op
 use Rattle.utc_calculator.specs.Operations.{Operand, Time, Number, Minutes, Octets, kind_of, word_of, operands_of, Reads, ReadEach, IsOfTimestamp, Spells}
 use Rattle.utc_calculator.proofs.Operands.{any}
-use Rattle.utc_calculator.proofs.Numbers.{small, small_minutes}
-
--- twelve bits hold a time differential factor
-low_bits : (t : ℤ) → IsTdf t → twos_complement 12 t < 2 ^ 12
-low_bits (pos m) h = omega (arith, ints)
-low_bits (negsuc m) h = omega (arith, ints)
-
-factor_bits : (k : Kind) (t : ℤ) → IsTdfOf k t → twos_complement 12 t < 2 ^ 12
-factor_bits Absolute t h = low_bits t h
-factor_bits Relative t h = rw h (omega arith)
-
--- the octets of a timestamp give its version and its time differential factor
-pub octets_version : (a : Stamp) → IsInRange a → version_in (octets_of a) ≡ version_of a.kind
-octets_version a h =
-    let g = gives_parts a (octets_of a) h refl in
-    omega (arith, g.last, factor_bits a.kind a.tdf h.tdf_fits)
-
-pub octets_tdf : (a : Stamp) → IsInRange a → tdf_in (octets_of a) ≡ a.tdf
-octets_tdf a h =
-    let g = gives_parts a (octets_of a) h refl in
-    (same_last a.kind a.kind a.tdf _ h.tdf_fits g.last (sym (octets_version a h))).1
-
--- timestamps with the same octets are one
-same_octets : (a b : Stamp) → IsInRange a → IsInRange b → octets_of a ≡ octets_of b → a ≡ b
-same_octets a b h k e =
-    let g = gives_parts a (octets_of b) h e in
-    read_is_given b (octets_of b) a.time a.inaccuracy a.tdf a.kind h.time_fits g.time h.inaccuracy_fits g.inaccuracy (rw (← e) (sym (octets_version a h))) (rw (← e) (sym (octets_tdf a h))) k refl
 
 -- some operation with that word
 abbrev form_of : List ℕ → Operation
@@ -153,12 +124,6 @@ same_operation (op.Mid a b) p w e h k = made_of p (word_of (op.Mid a b)) (operan
 same_operation (op.Point a) p w e h k = made_of p (word_of (op.Point a)) (operands_of (op.Point a)) (sym w) (sym e)
 same_operation (op.Bytes a) p w e h k = made_of p (word_of (op.Bytes a)) (operands_of (op.Bytes a)) (sym w) (sym e)
 
-abbrev read_as : Stamp → Result Stamp TextFault
-read_as s = Ok s
-
-time_is : (a b : Stamp) → read_as a ≡ read_as b → a ≡ b
-time_is a b e = cc
-
 abbrev decoded : List ℕ → Result (List ℕ) FromHexError
 decoded octets = Ok octets
 
@@ -166,10 +131,16 @@ octets_are : (xs ys : List ℕ) → decoded xs ≡ decoded ys → xs ≡ ys
 octets_are xs ys e = cc
 
 -- a field is right as one operand of a kind
+same_time : (field : List ℕ) (a b : Stamp) → SpellsAbsolute field a ⊎ SpellsRelative field a → SpellsAbsolute field b ⊎ SpellsRelative field b → a ≡ b
+same_time field a b (inl h) (inl k) = absolute_one_value field a b h k
+same_time field a b (inl h) (inr k) = absurd (no_text_is_both field a b h k)
+same_time field a b (inr h) (inl k) = absurd (no_text_is_both field b a k h)
+same_time field a b (inr h) (inr k) = relative_one_value field a b h k
+
 same_operand : (field : List ℕ) (x y : Operand) → kind_of x ≡ kind_of y → Reads field x → Reads field y → x ≡ y
-same_operand field (Time a) (Time b) e h k = ap Time (time_is a b (sym h ∙ k))
-same_operand field (Number a) (Number b) e h k = ap Number (signed_decimal_injective a b (small a h.1) (small b k.1) (sym h.0 ∙ k.0))
-same_operand field (Minutes a) (Minutes b) e h k = ap Minutes (signed_decimal_injective a b (small_minutes a h.1) (small_minutes b k.1) (sym h.0 ∙ k.0))
+same_operand field (Time a) (Time b) e h k = ap Time (same_time field a b h k)
+same_operand field (Number a) (Number b) e h k = ap Number (one_number field a b h.0 k.0)
+same_operand field (Minutes a) (Minutes b) e h k = ap Minutes (one_number field a b h.0 k.0)
 same_operand field (Octets a) (Octets b) e h k = ap Octets (octets_are a b (sym h ∙ k))
 same_operand field x y e h k = absurd (cc)
 

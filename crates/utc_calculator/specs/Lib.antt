@@ -1,5 +1,4 @@
 pub mod Operations
 pub mod Results
 pub mod Answers
-pub mod Output
-pub mod Progress
+pub mod Writing

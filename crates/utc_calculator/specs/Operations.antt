@@ -1,15 +1,16 @@
--- The lines that the calculator reads: an operation's word and then its operands. Our own choice, after C310's routines.
-use Rattle.std.specs.Prelude.{◌≡◌, ◌≢◌, ◌⊎◌, ℕ, ◌==◌, ◌||◌, Bool, not, List, [], ◌∷◌, map, codes, get_or, slice_index, ℤ, FitsSigned, Result, Ok, Err, if◌then◌else◌}
+-- The lines that the calculator reads: an operation's word and then its operands, joined by single spaces.
+use Rattle.std.specs.Prelude.{◌≡◌, ◌≢◌, ◌⊎◌, ℕ, ◌==◌, ◌||◌, Bool, not, List, [], ◌∷◌, map, codes, get_or, ℤ, FitsSigned, Ok, if◌then◌else◌}
 use Rattle.std.specs.Int.{w16, w32}
-use Rattle.std.specs.Fmt.{signed_decimal}
 use Rattle.hex.specs.Hex.{decode_sized}
+use Rattle.line_reader.specs.Fields.{fields_of}
+use Rattle.line_reader.specs.Numbers.{IsWhole}
 use Rattle.utc_value.specs.declared.BytesFault.{BytesFault}
-use Rattle.utc_value.specs.declared.BytesFault.TheVariants as bytes
 use Rattle.utc_value.specs.Stamp.{Stamp, IsInRange}
-use Rattle.utc_value.specs.Octets.{octets_of, version_in, tdf_in, IsVersion, IsTdfOfVersion}
+use Rattle.utc_value.specs.Octets.{octets_of, RefusesOctets}
 use Rattle.utc_text.specs.declared.fault.TextFault.{TextFault}
-use Rattle.utc_text.specs.Texts.{absolute_of, relative_of}
-use Rattle.dts_capture.specs.Fields.{fields_of, IsPlain}
+use Rattle.utc_text.specs.Grammar.{dash}
+use Rattle.utc_text.specs.Texts.{SpellsAbsolute, SpellsRelative}
+use Rattle.utc_text.specs.FirstWrong.{IsAbsoluteFault, IsRelativeFault}
 use Rattle.utc_calculator.specs.declared.cause.UtcCause.{UtcCause}
 use Rattle.utc_calculator.specs.declared.cause.UtcCause.TheVariants as cause
 use Rattle.utc_calculator.specs.declared.operation.Operation.{Operation}
@@ -64,25 +65,11 @@ operands_of (op.Point a) = Time a ∷ []
 operands_of (op.Bytes a) = Time a ∷ []
 operands_of (op.Text a) = Octets (octets_of a) ∷ []
 
--- a text that is no time is told of as a relative one where it begins with `-`, or its fifth octet is not `-`
-abbrev pub is_relative_form : List ℕ → Bool
-is_relative_form text = (get_or text 0 0 == 45) || not (get_or text 4 0 == 45)
-
--- the first of two readings that is right, or the fault of the second where the text is of its form, and else that of the first
-abbrev pub either_read : Bool → Result Stamp TextFault → Result Stamp TextFault → Result Stamp TextFault
-either_read second (Ok s) r = Ok s
-either_read second (Err e) (Ok s) = Ok s
-either_read second (Err e) (Err d) = if second then Err d else Err e
-
--- a time is read as an absolute text, and else as a relative one
-abbrev pub time_of : List ℕ → Result Stamp TextFault
-time_of text = either_read (is_relative_form text) (absolute_of text) (relative_of text)
-
--- a field is right as an operand: a number is in decimal without leading zeros, and octets are hex digits of either case
+-- a field is right as an operand: a time is an absolute text or a relative one, a number is in decimal, and octets are hex digits of either case
 abbrev pub Reads : List ℕ → Operand → Type 0
-Reads field (Time s) = time_of field ≡ Ok s
-Reads field (Number k) = (field ≡ signed_decimal k) × FitsSigned w32 k
-Reads field (Minutes t) = (field ≡ signed_decimal t) × FitsSigned w16 t
+Reads field (Time s) = SpellsAbsolute field s ⊎ SpellsRelative field s
+Reads field (Number k) = IsWhole field k × FitsSigned w32 k
+Reads field (Minutes t) = IsWhole field t × FitsSigned w16 t
 Reads field (Octets octets) = decode_sized field 16 ≡ Ok octets
 
 -- the fields are right as the operands, one each
@@ -101,9 +88,21 @@ IsOfTimestamp _ = Unit {0}
 abbrev pub Spells : List ℕ → Operation → Type 0
 Spells line o = (fields : List (List ℕ)) × (fields_of line ≡ word_of o ∷ fields) × ReadEach fields (operands_of o) × IsOfTimestamp o
 
+-- a text that is no time is told of as a relative one where it begins with `-`, or its fifth octet is not `-`
+abbrev pub is_relative_form : List ℕ → Bool
+is_relative_form text = (get_or text 0 0 == dash) || not (get_or text 4 0 == dash)
+
+-- why a text is no time: its fault as an absolute one or as a relative one
+pub record IsNoTime (text : List ℕ) (fault : TextFault) : Type 0 where
+  pub absolute : TextFault
+  pub relative : TextFault
+  pub as_absolute : IsAbsoluteFault text absolute
+  pub as_relative : IsRelativeFault text relative
+  pub told : fault ≡ (if is_relative_form text then relative else absolute)
+
 -- why a field with octets is not right as an operand of that kind
 abbrev pub IsWrong : OperandKind → List ℕ → UtcCause → Type 0
-IsWrong TimeKind field c = (fault : TextFault) × (time_of field ≡ Err fault) × (c ≡ cause.Text fault)
+IsWrong TimeKind field c = (fault : TextFault) × IsNoTime field fault × (c ≡ cause.Text fault)
 IsWrong NumberKind field c = ((k : ℤ) → Reads field (Number k) → ⊥) × (c ≡ cause.Number)
 IsWrong MinutesKind field c = ((t : ℤ) → Reads field (Minutes t) → ⊥) × (c ≡ cause.Number)
 IsWrong OctetsKind field c = ((octets : List ℕ) → Reads field (Octets octets) → ⊥) × (c ≡ cause.Hex)
@@ -129,11 +128,6 @@ abbrev pub IsFirstWrong : List OperandKind → List (List ℕ) → UtcCause → 
 IsFirstWrong [] fields c = IsLeftOver fields c
 IsFirstWrong (kind ∷ kinds) fields c = IsNextWrong kind fields c ⊎ ((x : Operand) × (rest : List (List ℕ)) × (kind_of x ≡ kind) × HasOperand fields x rest × IsFirstWrong kinds rest c)
 
--- why sixteen octets are no timestamp: first the version, then the time differential factor
-abbrev pub RefusesOctets : List ℕ → BytesFault → Type 0
-RefusesOctets octets (bytes.Version found) = (found ≡ version_in octets) × (¬ IsVersion found)
-RefusesOctets octets (bytes.Tdf found) = (found ≡ tdf_in octets) × IsVersion (version_in octets) × (¬ IsTdfOfVersion (version_in octets) found)
-
 -- no operation has the word
 abbrev pub IsUnknown : List ℕ → Type 0
 IsUnknown word = (o : Operation) → word_of o ≢ word
@@ -153,7 +147,3 @@ RefusesFields word fields c = (IsUnknown word × (c ≡ cause.Word)) ⊎ (HasWro
 -- why a line asks for no operation
 abbrev pub RefusesReading : List ℕ → UtcCause → Type 0
 RefusesReading line c = (word : List ℕ) × (fields : List (List ℕ)) × (fields_of line ≡ word ∷ fields) × RefusesFields word fields c
-
--- neither a plus, nor a zero before other octets, nor a zero behind a minus stands first
-abbrev pub IsPlainNumber : List ℕ → Type 0
-IsPlainNumber field = IsPlain field × (slice_index field 0 ≡ 45 → slice_index field 1 ≢ 48)

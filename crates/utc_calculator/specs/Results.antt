@@ -1,4 +1,4 @@
--- What operations result in, and how that is written. The results are those of the routines (after C310).
+-- What operations result in, and how that is written.
 use Rattle.std.specs.Prelude.{◌≡◌, ◌⊎◌, ℕ, List, [], ◌∷◌, codes}
 use Rattle.utc_value.specs.declared.Kind.{Kind}
 use Rattle.utc_value.specs.declared.Kind.TheVariants as kind
@@ -11,16 +11,13 @@ use Rattle.utc_routines.specs.Arithmetic.{Adds, RefusesSum, Subtracts, RefusesDi
 use Rattle.utc_routines.specs.Comparison.{IsIntervalOrder, IsTimeOrder, RefusesUnlike}
 use Rattle.utc_routines.specs.Tightest.{Spans, Bounds, RefusesBound, ArePoints, RefusesPoints}
 use Rattle.utc_text.specs.Civil.{IsInYears, local_count}
-use Rattle.utc_text.specs.Printing.{IsShown, relative_shown}
-use Rattle.utc_text.specs.Spelling.{relative_text}
+use Rattle.utc_text.specs.Printing.{IsShown, IsLengthShown}
 use Rattle.hex.specs.Hex.{encode_lower}
-use Rattle.dts_capture.specs.Fields.{text_of}
+use Rattle.line_reader.specs.Fields.{text_of}
 use Rattle.utc_calculator.specs.declared.operation.Operation.{Operation}
 use Rattle.utc_calculator.specs.declared.operation.Operation.TheVariants as op
 use Rattle.utc_calculator.specs.declared.operation.Outcome.{Outcome}
 use Rattle.utc_calculator.specs.declared.operation.Outcome.TheVariants as out
-use Rattle.utc_calculator.specs.declared.computing.Unwritten.{Unwritten}
-use Rattle.utc_calculator.specs.declared.computing.Unwritten.TheVariants as unwritten
 
 -- a timestamp results from an operation
 abbrev pub YieldsTime : Operation → Stamp → Type 0
@@ -75,7 +72,7 @@ RefusesRoutine (op.Text a) fault = ⊥
 -- the text of a timestamp: a moment as clocks show it at its own time differential factor, or a length of time
 abbrev pub IsTextOfKind : Kind → Stamp → List ℕ → Type 0
 IsTextOfKind kind.Absolute s text = IsShown s.time s.tdf s.inaccuracy text
-IsTextOfKind kind.Relative s text = text ≡ relative_text (relative_shown s.time s.inaccuracy)
+IsTextOfKind kind.Relative s text = IsLengthShown s.time s.inaccuracy text
 
 abbrev pub IsTextOf : Stamp → List ℕ → Type 0
 IsTextOf s text = IsTextOfKind s.kind s text
@@ -115,8 +112,3 @@ RefusesShowing (out.Time r) = HasNoText r
 RefusesShowing (out.Points first middle last) = HasNoText first ⊎ (HasNoText middle ⊎ HasNoText last)
 RefusesShowing (out.Order o) = ⊥
 RefusesShowing (out.Octets octets) = ⊥
-
--- nothing is written for want of memory, or for a year that is not written, and that only where P holds
-abbrev pub IsUnwritten : Type 0 → Unwritten → Type 0
-IsUnwritten P unwritten.Year = P
-IsUnwritten P unwritten.NoMemory = Unit {0}

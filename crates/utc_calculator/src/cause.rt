@@ -4,7 +4,7 @@ use utc_text::{PrintFault, TextFault};
 use utc_value::BytesFault;
 
 /// Why a line of the calculator is refused: the first cause that is met in reading the line, then in
-/// computing, then in printing. Our own choice.
+/// computing, then in printing.
 #[derive(Clone, Copy, Debug, PartialEq, Eq, Error)]
 pub enum UtcCause {
     /// The line has more than 16,384 octets.

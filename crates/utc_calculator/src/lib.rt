@@ -1,20 +1,25 @@
-//! A calculator of timestamps: a line asks for an operation on operands, and is answered by a line. Our own
-//! choice of texts, after C310's routines.
+//! A calculator of timestamps: a line asks for an operation on operands, and is answered by a line. Its operations
+//! and texts are our own choice, after C310's routines.
 #![tactic(auto)]
 
-mod answering;
-mod calculating;
 mod cause;
-mod computing;
+mod input;
+mod laws;
+mod line;
 mod operation;
 mod reading;
+mod results;
 
-pub use answering::{AnswerFault, answer, no_line_is_both, one_cause};
-pub use calculating::{Stop, calculate};
 pub use cause::UtcCause;
-pub use computing::compute;
+pub use input::{Calculator, calculate};
+pub use laws::{
+    every_line_is_answered_or_refused, no_line_is_both, one_answer, one_cause,
+    the_rules_are_exclusive,
+};
+pub use line::answer;
 pub use operation::{Operation, Outcome};
 pub use reading::parse;
+pub use results::compute;
 
 #[cfg(test)]
 mod tests;

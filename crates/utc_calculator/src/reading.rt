@@ -1,17 +1,14 @@
 //! Reads the lines of the calculator.
 
 ghost use Rattle.std.specs.Prelude.{◌≡◌, ◌≢◌, ◌⊎◌, List, ℕ, [], ◌∷◌, ℤ, FitsSigned, IfOk, IfErr, MatchOption, MatchResult, IsTrue, ◌↔◌, codes};
-ghost use Rattle.std.specs.Int.{w16, w32};
-ghost use Rattle.std.specs.Fmt.{signed_decimal};
-ghost use Rattle.hex.specs.Hex.{decode_sized};
 ghost use Rattle.utc_value.specs.Octets.{octets_of};
 ghost use Rattle.utc_value.specs.Stamp.{IsInRange};
-ghost use Rattle.dts_capture.specs.Fields.{fields_of};
-ghost use Rattle.utc_calculator.specs.Operations.{Time, Number, Minutes, Octets, TimeKind, NumberKind, MinutesKind, OctetsKind, Reads, ReadEach, Spells, IsOfTimestamp, IsNextWrong, IsLeftOver, IsFirstWrong, HasOperand, HasWrongOctets, RefusesFields, RefusesReading, operands_of, IsPlainNumber, is_relative_form, time_of, word_of};
+ghost use Rattle.line_reader.specs.Fields.{fields_of};
+ghost use Rattle.utc_calculator.specs.Operations.{Time, Number, Minutes, Octets, TimeKind, NumberKind, MinutesKind, OctetsKind, Reads, ReadEach, Spells, IsOfTimestamp, IsNextWrong, IsLeftOver, IsFirstWrong, HasOperand, HasWrongOctets, RefusesFields, RefusesReading, operands_of, IsNoTime, is_relative_form, word_of};
 
 use crate::{Operation, UtcCause};
-use dts_capture::Fields;
 use hex::FromHex;
+use line_reader::{Fields, number_in};
 use utc_text::{TextFault, parse_abs, parse_rel};
 use utc_value::Utc;
 
@@ -30,8 +27,8 @@ pub fn parse(line: &[u8]) -> Result<Operation, UtcCause>
 
 // Takes the operands of the operation that has this word.
 fn after_word(word: &[u8], fields: Fields) -> Result<Operation, UtcCause>
-    ensures ok { IfOk result (λ o. (word.now ≡ word_of o) × ReadEach fields.entry (operands_of o) × IsOfTimestamp o) }
-    ensures err { IfErr result (RefusesFields word.now fields.entry) }
+    ensures ok { IfOk result (λ o. (word.now ≡ word_of o) × ReadEach fields.entry.left (operands_of o) × IsOfTimestamp o) }
+    ensures err { IfErr result (RefusesFields word.now fields.entry.left) }
 {
     if word == b"add".as_slice() {
         two_times(fields).map(|(a, b)| Operation::Add(a, b))
@@ -64,8 +61,8 @@ fn after_word(word: &[u8], fields: Fields) -> Result<Operation, UtcCause>
 
 // The next field, where it has octets.
 fn next_field<'a>(fields: &mut Fields<'a>) -> Result<&'a [u8], UtcCause>
-    ensures ok { IfOk result (λ field. (fields.old ≡ field.now ∷ fields.new) × (field.now ≢ [])) }
-    ensures err { IfErr result (λ c. (c ≡ UtcCause.Missing) × ((fields.old ≡ []) ⊎ (fields.old ≡ [] ∷ fields.new))) }
+    ensures ok { IfOk result (λ field. (fields.old.left ≡ field.now ∷ fields.new.left) × (field.now ≢ [])) }
+    ensures err { IfErr result (λ c. (c ≡ UtcCause.Missing) × ((fields.old.left ≡ []) ⊎ (fields.old.left ≡ [] ∷ fields.new.left))) }
 {
     match fields.next() {
         Some([]) | None => Err(UtcCause::Missing),
@@ -75,8 +72,8 @@ fn next_field<'a>(fields: &mut Fields<'a>) -> Result<&'a [u8], UtcCause>
 
 // No field is left over.
 fn end(fields: &mut Fields) -> Result<(), UtcCause>
-    ensures ok { IfOk result (λ _. fields.old ≡ []) }
-    ensures err { IfErr result (IsLeftOver fields.old) }
+    ensures ok { IfOk result (λ _. fields.old.left ≡ []) }
+    ensures err { IfErr result (IsLeftOver fields.old.left) }
 {
     match fields.next() {
         None => Ok(()),
@@ -94,77 +91,80 @@ fn is_relative_form(text: &[u8]) -> bool
 
 // The time that a text is.
 fn time_of(text: &[u8]) -> Result<Utc, TextFault>
-    ensures { result ≡ time_of text.now }
+    ensures ok { IfOk result (λ u. Reads text.now (Time u)) }
+    ensures err { IfErr result (IsNoTime text.now) }
 {
-    match parse_abs(text) {
-        Ok(time) => Ok(time),
-        Err(fault) => match parse_rel(text) {
-            Err(_) if !is_relative_form(text) => Err(fault),
-            read => read,
-        },
+    let absolute = match parse_abs(text) {
+        Ok(time) => return Ok(time),
+        Err(fault) => fault,
+    };
+    let relative = match parse_rel(text) {
+        Ok(time) => return Ok(time),
+        Err(fault) => fault,
+    };
+    if is_relative_form(text) {
+        Err(relative)
+    } else {
+        Err(absolute)
     }
 }
 
 // Takes the next field, where it is a time.
 fn time(fields: &mut Fields) -> Result<Utc, UtcCause>
-    ensures ok { IfOk result (λ u. HasOperand fields.old (Time u) fields.new) }
-    ensures err { IfErr result (IsNextWrong TimeKind fields.old) }
+    ensures ok { IfOk result (λ u. HasOperand fields.old.left (Time u) fields.new.left) }
+    ensures err { IfErr result (IsNextWrong TimeKind fields.old.left) }
 {
     time_of(next_field(fields)?).map_err(UtcCause::Text)
-}
-
-// A number has neither a plus nor a leading zero, and 0 no minus.
-fn is_plain(field: &[u8]) -> bool
-    ensures { IsTrue result ↔ IsPlainNumber field.now }
-{
-    !matches!(field, [b'+', ..] | [b'0', _, ..] | [b'-', b'0', ..])
 }
 
 // The number of 32 bits that a field is, in decimal without leading zeros.
 fn number_of(field: &[u8]) -> Option<i32>
     ensures { MatchOption result ((k : ℤ) → Reads field.now (Number k) → ⊥) (λ k. Reads field.now (Number k)) }
 {
-    if !is_plain(field) {
-        return None;
+    match number_in(field, i128::from(i32::MIN), i128::from(i32::MAX)) {
+        Ok(number) => Some(number as i32),
+        Err(_) => None,
     }
-    str::from_utf8(field).ok()?.parse().ok()
 }
 
 // The number of minutes of 16 bits that a field is.
 fn minutes_of(field: &[u8]) -> Option<i16>
     ensures { MatchOption result ((t : ℤ) → Reads field.now (Minutes t) → ⊥) (λ t. Reads field.now (Minutes t)) }
 {
-    i16::try_from(number_of(field)?).ok()
+    match number_in(field, i128::from(i16::MIN), i128::from(i16::MAX)) {
+        Ok(number) => Some(number as i16),
+        Err(_) => None,
+    }
 }
 
 // Takes the next field, where it is a number of 32 bits.
 fn number(fields: &mut Fields) -> Result<i32, UtcCause>
-    ensures ok { IfOk result (λ k. HasOperand fields.old (Number k) fields.new) }
-    ensures err { IfErr result (IsNextWrong NumberKind fields.old) }
+    ensures ok { IfOk result (λ k. HasOperand fields.old.left (Number k) fields.new.left) }
+    ensures err { IfErr result (IsNextWrong NumberKind fields.old.left) }
 {
     number_of(next_field(fields)?).ok_or(UtcCause::Number)
 }
 
 // Takes the next field, where it is a number of minutes.
 fn minutes(fields: &mut Fields) -> Result<i16, UtcCause>
-    ensures ok { IfOk result (λ t. HasOperand fields.old (Minutes t) fields.new) }
-    ensures err { IfErr result (IsNextWrong MinutesKind fields.old) }
+    ensures ok { IfOk result (λ t. HasOperand fields.old.left (Minutes t) fields.new.left) }
+    ensures err { IfErr result (IsNextWrong MinutesKind fields.old.left) }
 {
     minutes_of(next_field(fields)?).ok_or(UtcCause::Number)
 }
 
 // Takes the next field, where it is 32 hex digits.
 fn octets(fields: &mut Fields) -> Result<[u8; 16], UtcCause>
-    ensures ok { IfOk result (λ octets. HasOperand fields.old (Octets octets) fields.new) }
-    ensures err { IfErr result (IsNextWrong OctetsKind fields.old) }
+    ensures ok { IfOk result (λ octets. HasOperand fields.old.left (Octets octets) fields.new.left) }
+    ensures err { IfErr result (IsNextWrong OctetsKind fields.old.left) }
 {
     <[u8; 16] as FromHex>::from_hex(next_field(fields)?).map_err(|_| UtcCause::Hex)
 }
 
 // A time, and no more.
 fn one_time(mut fields: Fields) -> Result<Utc, UtcCause>
-    ensures ok { IfOk result (λ a. ReadEach fields.entry (Time a ∷ [])) }
-    ensures err { IfErr result (IsFirstWrong (TimeKind ∷ []) fields.entry) }
+    ensures ok { IfOk result (λ a. ReadEach fields.entry.left (Time a ∷ [])) }
+    ensures err { IfErr result (IsFirstWrong (TimeKind ∷ []) fields.entry.left) }
 {
     let a = time(&mut fields)?;
     end(&mut fields)?;
@@ -173,8 +173,8 @@ fn one_time(mut fields: Fields) -> Result<Utc, UtcCause>
 
 // Two times, and no more.
 fn two_times(mut fields: Fields) -> Result<(Utc, Utc), UtcCause>
-    ensures ok { IfOk result (λ both. ReadEach fields.entry (Time both.0 ∷ Time both.1 ∷ [])) }
-    ensures err { IfErr result (IsFirstWrong (TimeKind ∷ TimeKind ∷ []) fields.entry) }
+    ensures ok { IfOk result (λ both. ReadEach fields.entry.left (Time both.0 ∷ Time both.1 ∷ [])) }
+    ensures err { IfErr result (IsFirstWrong (TimeKind ∷ TimeKind ∷ []) fields.entry.left) }
 {
     let a = time(&mut fields)?;
     let b = time(&mut fields)?;
@@ -184,8 +184,8 @@ fn two_times(mut fields: Fields) -> Result<(Utc, Utc), UtcCause>
 
 // A time and a number, and no more.
 fn time_and_number(mut fields: Fields) -> Result<(Utc, i32), UtcCause>
-    ensures ok { IfOk result (λ both. ReadEach fields.entry (Time both.0 ∷ Number both.1 ∷ [])) }
-    ensures err { IfErr result (IsFirstWrong (TimeKind ∷ NumberKind ∷ []) fields.entry) }
+    ensures ok { IfOk result (λ both. ReadEach fields.entry.left (Time both.0 ∷ Number both.1 ∷ [])) }
+    ensures err { IfErr result (IsFirstWrong (TimeKind ∷ NumberKind ∷ []) fields.entry.left) }
 {
     let a = time(&mut fields)?;
     let k = number(&mut fields)?;
@@ -195,8 +195,8 @@ fn time_and_number(mut fields: Fields) -> Result<(Utc, i32), UtcCause>
 
 // A time and a number of minutes, and no more.
 fn time_and_minutes(mut fields: Fields) -> Result<(Utc, i16), UtcCause>
-    ensures ok { IfOk result (λ both. ReadEach fields.entry (Time both.0 ∷ Minutes both.1 ∷ [])) }
-    ensures err { IfErr result (IsFirstWrong (TimeKind ∷ MinutesKind ∷ []) fields.entry) }
+    ensures ok { IfOk result (λ both. ReadEach fields.entry.left (Time both.0 ∷ Minutes both.1 ∷ [])) }
+    ensures err { IfErr result (IsFirstWrong (TimeKind ∷ MinutesKind ∷ []) fields.entry.left) }
 {
     let a = time(&mut fields)?;
     let t = minutes(&mut fields)?;
@@ -206,8 +206,8 @@ fn time_and_minutes(mut fields: Fields) -> Result<(Utc, i16), UtcCause>
 
 // Sixteen octets that are a timestamp, and no more.
 fn octets_of_time(mut fields: Fields) -> Result<Utc, UtcCause>
-    ensures ok { IfOk result (λ a. ReadEach fields.entry (Octets (octets_of a) ∷ []) × IsInRange a) }
-    ensures err { IfErr result (λ c. IsFirstWrong (OctetsKind ∷ []) fields.entry c ⊎ HasWrongOctets (codes "text") fields.entry c) }
+    ensures ok { IfOk result (λ a. ReadEach fields.entry.left (Octets (octets_of a) ∷ []) × IsInRange a) }
+    ensures err { IfErr result (λ c. IsFirstWrong (OctetsKind ∷ []) fields.entry.left c ⊎ HasWrongOctets (codes "text") fields.entry.left c) }
 {
     let octets = octets(&mut fields)?;
     end(&mut fields)?;

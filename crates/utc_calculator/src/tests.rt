@@ -1,7 +1,6 @@
-use crate::answering::{AnswerFault, answer, no_line_is_both, one_cause};
-use crate::calculating::{Stop, answer_at, calculate};
-use crate::{Operation, Outcome, UtcCause, compute, parse};
+use super::*;
 use dts_base::{MemorySink, MemorySource};
+use line_filter::{LineFilter, Stop, Unfit};
 use std::alloc::Global;
 use std::process::Abort;
 use std::test::Fail;
@@ -171,7 +170,7 @@ fn the_first_cause_is_named(rt: HostRuntime) -> Result<(), Fail> {
     ];
     for (line, cause) in cases {
         let got = answer(rt.alloc(), line.as_bytes());
-        assert_eq!(rt; got.err(), Some(AnswerFault::Refused(cause)), "{line}");
+        assert_eq!(rt; got.err(), Some(Unfit::Refused(cause)), "{line}");
     }
     Ok(())
 }
@@ -194,7 +193,7 @@ fn a_text_that_is_no_time_has_the_fault_of_its_form(rt: HostRuntime) -> Result<(
     ];
     for (line, cause) in cases {
         let got = answer(rt.alloc(), line.as_bytes());
-        assert_eq!(rt; got.err(), Some(AnswerFault::Refused(cause)), "{line}");
+        assert_eq!(rt; got.err(), Some(Unfit::Refused(cause)), "{line}");
     }
     Ok(())
 }
@@ -221,7 +220,7 @@ fn expect(
     rt: &impl Abort,
     alloc: Global,
     lines: &[u8],
-    ends: Result<(), Stop>,
+    ends: Result<(), Stop<UtcCause>>,
     want: &[u8],
 ) -> Result<(), Fail> {
     let mut input = MemorySource::new(alloc, lines, &[])?;
@@ -293,23 +292,9 @@ fn a_line_has_at_most_16384_octets(rt: HostRuntime) -> Result<(), Fail> {
 }
 
 #[test]
-fn an_input_has_at_most_4294967295_lines(rt: HostRuntime) -> Result<(), Fail> {
-    let line = b"bytes 00-00:00:00I0";
-    assert!(rt; answer_at(rt.alloc(), 4_294_967_295, line).is_ok());
-    let stop = Stop::Refused {
-        line: 4_294_967_296,
-        cause: UtcCause::Lines,
-    };
-    assert_eq!(rt;
-        answer_at(rt.alloc(), 4_294_967_296, line).err(),
-        Some(stop)
-    );
-    let long = vec![in rt.alloc(); b'x'; 16_385]?;
-    assert_eq!(rt;
-        answer_at(rt.alloc(), 4_294_967_296, long.as_slice()).err(),
-        Some(stop)
-    );
-    Ok(())
+fn too_many_and_too_long_lines_have_their_causes(rt: HostRuntime) {
+    assert_eq!(rt; Calculator::too_many(), UtcCause::Lines);
+    assert_eq!(rt; Calculator::too_long(), UtcCause::Long);
 }
 
 #[test]
@@ -362,22 +347,6 @@ fn faults_have_their_texts(rt: HostRuntime) -> Result<(), Fail> {
         let stop = Stop::Refused { line: 7, cause };
         assert_eq!(rt; stop.to_string(rt.alloc())?.as_str(), want);
     }
-    assert_eq!(rt;
-        Stop::Read.to_string(rt.alloc())?.as_str(),
-        "the input can't be read"
-    );
-    assert_eq!(rt;
-        Stop::Write.to_string(rt.alloc())?.as_str(),
-        "the output can't be written"
-    );
-    assert_eq!(rt;
-        Stop::NoMemory.to_string(rt.alloc())?.as_str(),
-        "out of memory"
-    );
-    assert_eq!(rt;
-        AnswerFault::NoMemory.to_string(rt.alloc())?.as_str(),
-        "out of memory"
-    );
     Ok(())
 }
 
@@ -385,4 +354,14 @@ fn faults_have_their_texts(rt: HostRuntime) -> Result<(), Fail> {
 fn the_laws_have_no_effect() {
     no_line_is_both();
     one_cause();
+    one_answer();
+    the_rules_are_exclusive();
+    for line in [
+        "",
+        "abs 00-00:00:01",
+        "point 1582-01-01-00:00:00I1",
+        "point 00-00:00:01I1",
+    ] {
+        every_line_is_answered_or_refused(line.as_bytes());
+    }
 }

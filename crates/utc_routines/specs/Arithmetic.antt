@@ -1,4 +1,4 @@
--- Sums, differences, products and absolute values of timestamps (after C310's routines).
+-- Sums, differences, products and absolute values of timestamps.
 use Rattle.std.specs.Prelude.{◌≡◌, ℤ, pos, ◌+ℤ◌, ◌-ℤ◌, ◌*ℤ◌, unsigned_abs, FitsSigned, is_none, IsSome, Option, Some, None}
 use Rattle.std.specs.Int.{w64}
 use Rattle.utc_value.specs.declared.Kind.{Kind}

@@ -1,4 +1,4 @@
--- The two orders of timestamps (after C310's comparisons).
+-- The two orders of timestamps.
 use Rattle.std.specs.Prelude.{◌≡◌, ◌≢◌, ◌↔◌, ℤ, ◌<ℤ◌}
 use Rattle.utc_value.specs.Stamp.{Stamp}
 use Rattle.utc_value.specs.Members.{IsMember}

@@ -1,5 +1,6 @@
 -- Intervals of whole times, and the least one that holds a set of them. A set of times is a fact of a time.
-use Rattle.std.specs.Prelude.{◌≡◌, ℕ, ◌-◌, ◌^◌, nat_le, ℤ, pos, ◌+ℤ◌, ◌-ℤ◌, ◌≤ℤ◌, ◌<ℤ◌, Bool, true, false, ◌||◌, is_none, if◌then◌else◌, Option, Some, None}
+use Rattle.std.specs.Prelude.{◌≡◌, ℕ, nat_le, ℤ, pos, ◌+ℤ◌, ◌-ℤ◌, ◌≤ℤ◌, ◌<ℤ◌, Bool, true, false, ◌||◌, is_none, if◌then◌else◌, Option, Some, None}
+use Rattle.utc_value.specs.declared.TheConstants.{MAX_INACCURACY}
 use Rattle.utc_value.specs.Stamp.{Stamp}
 use Rattle.utc_value.specs.Members.{IsMember}
 
@@ -14,7 +15,7 @@ pub record IsLeastInterval (P : ℤ → Type 0) (low high : ℤ) : Type 0 where
 
 -- an inaccuracy as a timestamp states it: above 2^48 − 2 it is unspecified
 abbrev pub stated : ℕ → Option ℕ
-stated i = if nat_le i (2 ^ 48 - 2) then Some i else None
+stated i = if nat_le i MAX_INACCURACY then Some i else None
 
 -- one of two timestamps has an unspecified inaccuracy
 abbrev pub is_either_unspecified : Stamp → Stamp → Bool

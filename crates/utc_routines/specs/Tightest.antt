@@ -1,12 +1,11 @@
--- The points of an interval, and the tightest timestamp round several times (after C310's routines).
+-- The points of an interval, and the tightest timestamp round several times.
 use Rattle.std.specs.Prelude.{◌≡◌, ◌≢◌, ◌⊎◌, ℕ, ◌≤◌, ℤ, pos, ◌+ℤ◌, ◌-ℤ◌, ◌≤ℤ◌, ◌<ℤ◌, FitsSigned, Bool, true, false, Option, Some, None}
 use Rattle.std.specs.Int.{w64}
 use Rattle.utc_value.specs.Stamp.{Stamp}
 use Rattle.utc_value.specs.Members.{IsMember}
 use Rattle.utc_routines.specs.declared.UtcFault.{UtcFault}
 use Rattle.utc_routines.specs.declared.UtcFault.TheVariants.{Kinds, Overflow, OutOfOrder, Unspecified}
-use Rattle.utc_routines.specs.Interval.{IsHalf}
-use Rattle.utc_routines.specs.Interval.{HoldsAll, IsEarliest, IsLatest, stated, is_either_unspecified}
+use Rattle.utc_routines.specs.Interval.{IsHalf, HoldsAll, IsEarliest, IsLatest, stated, is_either_unspecified}
 
 -- of all whole times t with a whole inaccuracy i whose interval holds all of P, the one of least inaccuracy, and of these the one of least time
 pub record IsTightest (P : ℤ → Type 0) (t : ℤ) (i : ℕ) : Type 0 where

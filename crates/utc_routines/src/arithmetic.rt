@@ -1,7 +1,7 @@
 //! Sums, differences, multiples and absolute values.
 
-ghost use Rattle.std.specs.Prelude.{◌≡◌, ◌≢◌, ◌+◌, ◌*◌, ◌-◌, ◌^◌, ◌<◌, ◌≤◌, ◌↔◌, ℕ, ℤ, pos, ◌+ℤ◌, ◌*ℤ◌, ◌≤ℤ◌, IfOk, IfErr};
-ghost use Rattle.utc_value.specs.Stamp.{IsInRange, IsTdfOf};
+ghost use Rattle.std.specs.Prelude.{◌≡◌, ◌≢◌, ◌+◌, ◌*◌, ◌-◌, ◌^◌, ◌<◌, ◌≤◌, ◌↔◌, ℕ, ℤ, pos, ◌+ℤ◌, ◌*ℤ◌, ◌≤ℤ◌, Ok, Err, IfOk, IfErr};
+ghost use Rattle.utc_value.specs.Stamp.{Stamp, IsInRange, IsTdfOf};
 ghost use Rattle.utc_routines.specs.Arithmetic.{sum_kind, difference_kind, sum_tdf, kept_tdf, Adds, RefusesSum, Subtracts, RefusesDifference, Multiplies, RefusesProduct, TakesAbsolute, RefusesAbsolute, ChangesTdf, RefusesTdf};
 
 use crate::UtcFault;
@@ -13,6 +13,14 @@ use utc_value::{Kind, MAX_TDF, Utc};
 ///
 /// `Kinds` exactly for two moments; else `Overflow` exactly where the sum of the times is no `i64`.
 pub fn add(a: Utc, b: Utc) -> Result<Utc, UtcFault>
+    ensures sum { (r : Stamp) → (result ≡ Ok r) ↔ (Adds a b r × IsInRange r) }
+    ensures refused { (fault : UtcFault) → (result ≡ Err fault) ↔ RefusesSum a b fault }
+{
+    sum_of(a, b)
+}
+
+// The sum, kinds first.
+fn sum_of(a: Utc, b: Utc) -> Result<Utc, UtcFault>
     ensures ok { IfOk result (Adds a b) }
     ensures in_range { IfOk result IsInRange }
     ensures err { IfErr result (RefusesSum a b) }
@@ -31,6 +39,14 @@ pub fn add(a: Utc, b: Utc) -> Result<Utc, UtcFault>
 /// `Kinds` exactly for a length less a moment; else `Overflow` exactly where the difference of the
 /// times is no `i64`.
 pub fn sub(a: Utc, b: Utc) -> Result<Utc, UtcFault>
+    ensures difference { (r : Stamp) → (result ≡ Ok r) ↔ (Subtracts a b r × IsInRange r) }
+    ensures refused { (fault : UtcFault) → (result ≡ Err fault) ↔ RefusesDifference a b fault }
+{
+    difference_of(a, b)
+}
+
+// The difference, kinds first.
+fn difference_of(a: Utc, b: Utc) -> Result<Utc, UtcFault>
     ensures ok { IfOk result (Subtracts a b) }
     ensures in_range { IfOk result IsInRange }
     ensures err { IfErr result (RefusesDifference a b) }
@@ -47,6 +63,14 @@ pub fn sub(a: Utc, b: Utc) -> Result<Utc, UtcFault>
 ///
 /// `Kinds` exactly for a moment; else `Overflow` exactly where the time is the least `i64`.
 pub fn abs(a: Utc) -> Result<Utc, UtcFault>
+    ensures absolute { (r : Stamp) → (result ≡ Ok r) ↔ (TakesAbsolute a r × IsInRange r) }
+    ensures refused { (fault : UtcFault) → (result ≡ Err fault) ↔ RefusesAbsolute a fault }
+{
+    absolute_of(a)
+}
+
+// The absolute value, kinds first.
+fn absolute_of(a: Utc) -> Result<Utc, UtcFault>
     ensures ok { IfOk result (TakesAbsolute a) }
     ensures in_range { IfOk result IsInRange }
     ensures err { IfErr result (RefusesAbsolute a) }
@@ -62,6 +86,14 @@ pub fn abs(a: Utc) -> Result<Utc, UtcFault>
 ///
 /// `Kinds` exactly for a moment; else `Overflow` exactly where the product is no `i64`.
 pub fn mul(a: Utc, k: i32) -> Result<Utc, UtcFault>
+    ensures multiple { (r : Stamp) → (result ≡ Ok r) ↔ (Multiplies a k r × IsInRange r) }
+    ensures refused { (fault : UtcFault) → (result ≡ Err fault) ↔ RefusesProduct a k fault }
+{
+    multiple_of(a, k)
+}
+
+// The multiple, kinds first.
+fn multiple_of(a: Utc, k: i32) -> Result<Utc, UtcFault>
     ensures ok { IfOk result (Multiplies a k) }
     ensures in_range { IfOk result IsInRange }
     ensures err { IfErr result (RefusesProduct a k) }
@@ -77,6 +109,14 @@ pub fn mul(a: Utc, k: i32) -> Result<Utc, UtcFault>
 ///
 /// `Kinds` exactly for a length; else `TdfRange` exactly where `tdf` is a day or more, either way.
 pub fn with_tdf(a: Utc, tdf: i16) -> Result<Utc, UtcFault>
+    ensures moment { (r : Stamp) → (result ≡ Ok r) ↔ (ChangesTdf a tdf r × IsInRange r) }
+    ensures refused { (fault : UtcFault) → (result ≡ Err fault) ↔ RefusesTdf a tdf fault }
+{
+    moved_to(a, tdf)
+}
+
+// The same moment elsewhere, kinds first.
+fn moved_to(a: Utc, tdf: i16) -> Result<Utc, UtcFault>
     ensures ok { IfOk result (ChangesTdf a tdf) }
     ensures in_range { IfOk result IsInRange }
     ensures err { IfErr result (RefusesTdf a tdf) }
@@ -90,7 +130,7 @@ pub fn with_tdf(a: Utc, tdf: i16) -> Result<Utc, UtcFault>
     Ok(made(Kind::Absolute, a.time(), a.inaccuracy(), tdf))
 }
 
-/// The kind of a sum; two moments have none.
+// The kind of a sum; two moments have none.
 fn sum_kind(a: Kind, b: Kind) -> Option<Kind>
     ensures { result ≡ sum_kind a b }
 {
@@ -101,7 +141,7 @@ fn sum_kind(a: Kind, b: Kind) -> Option<Kind>
     }
 }
 
-/// The kind of a difference; a moment cannot be taken from a length.
+// The kind of a difference; a moment cannot be taken from a length.
 fn difference_kind(a: Kind, b: Kind) -> Option<Kind>
     ensures { result ≡ difference_kind a b }
 {
@@ -112,7 +152,7 @@ fn difference_kind(a: Kind, b: Kind) -> Option<Kind>
     }
 }
 
-/// The time differential factor of a sum.
+// The time differential factor of a sum.
 fn sum_tdf(a: Utc, b: Utc) -> i16
     ensures { result ≡ sum_tdf a.kind b.kind a.tdf b.tdf }
 {
@@ -122,7 +162,7 @@ fn sum_tdf(a: Utc, b: Utc) -> i16
     }
 }
 
-/// The time differential factor that a result of that kind keeps.
+// The time differential factor that a result of that kind keeps.
 fn kept_tdf(kind: Kind, tdf: i16) -> i16
     ensures { result ≡ kept_tdf kind tdf }
 {

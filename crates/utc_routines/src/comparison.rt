@@ -1,6 +1,6 @@
 //! The two orders of timestamps.
 
-ghost use Rattle.std.specs.Prelude.{◌≡◌, ◌≤ℤ◌, IfOk, IfErr};
+ghost use Rattle.std.specs.Prelude.{◌≡◌, ◌≤ℤ◌, ◌↔◌, Ok, Err, IfOk, IfErr};
 ghost use Rattle.utc_routines.specs.Comparison.{IsIntervalOrder, IsTimeOrder, RefusesUnlike};
 ghost use Rattle.utc_routines.specs.Formula.{IsEndsOrder};
 
@@ -13,8 +13,16 @@ use utc_value::Utc;
 /// `Indeterminate`. An unspecified timestamp has every whole time as a member.
 ///
 /// `Kinds` exactly where the kinds differ.
-#[tactic(auto, using(crate::proofs::ComparisonLemmas::order_of_ends, crate::proofs::ComparisonLemmas::unspecified_order))]
 pub fn cmp_interval(a: Utc, b: Utc) -> Result<Order4, UtcFault>
+    ensures order { (order : Order4) → (result ≡ Ok order) ↔ ((a.kind ≡ b.kind) × IsIntervalOrder a b order) }
+    ensures refused { (fault : UtcFault) → (result ≡ Err fault) ↔ RefusesUnlike a b fault }
+{
+    members_order(a, b)
+}
+
+// How the members lie, kinds first.
+#[tactic(auto, using(crate::proofs::ComparisonLemmas::order_of_ends, crate::proofs::ComparisonLemmas::unspecified_order))]
+fn members_order(a: Utc, b: Utc) -> Result<Order4, UtcFault>
     ensures operands { IfOk result (λ _. a.kind ≡ b.kind) }
     ensures ok { IfOk result (IsIntervalOrder a b) }
     ensures err { IfErr result (RefusesUnlike a b) }
@@ -32,6 +40,14 @@ pub fn cmp_interval(a: Utc, b: Utc) -> Result<Order4, UtcFault>
 ///
 /// `Kinds` exactly where the kinds differ.
 pub fn cmp_mid(a: Utc, b: Utc) -> Result<Order4, UtcFault>
+    ensures order { (order : Order4) → (result ≡ Ok order) ↔ ((a.kind ≡ b.kind) × IsTimeOrder a b order) }
+    ensures refused { (fault : UtcFault) → (result ≡ Err fault) ↔ RefusesUnlike a b fault }
+{
+    times_order(a, b)
+}
+
+// How the times lie, kinds first.
+fn times_order(a: Utc, b: Utc) -> Result<Order4, UtcFault>
     ensures operands { IfOk result (λ _. a.kind ≡ b.kind) }
     ensures ok { IfOk result (IsTimeOrder a b) }
     ensures err { IfErr result (RefusesUnlike a b) }
@@ -49,7 +65,7 @@ pub fn cmp_mid(a: Utc, b: Utc) -> Result<Order4, UtcFault>
     }
 }
 
-/// How one interval lies to another.
+// How one interval lies to another.
 fn order_of(a: Ends, b: Ends) -> Order4
     ensures { IsEndsOrder a.low a.high b.low b.high result }
 {

@@ -1,8 +1,8 @@
 //! Points, spans and bounds.
 
-ghost use Rattle.std.specs.Prelude.{◌≡◌, ℕ, ℤ, pos, ◌+ℤ◌, ◌-ℤ◌, ◌≤ℤ◌, FitsSigned, IfOk, IfErr, IfSome, MatchOption};
+ghost use Rattle.std.specs.Prelude.{◌≡◌, ℕ, ℤ, pos, ◌+ℤ◌, ◌-ℤ◌, ◌≤ℤ◌, FitsSigned, ◌↔◌, Ok, Err, IfOk, IfErr, IfSome, MatchOption};
 ghost use Rattle.std.specs.Int.{w64};
-ghost use Rattle.utc_value.specs.Stamp.{IsInRange, IsInaccuracy};
+ghost use Rattle.utc_value.specs.Stamp.{Stamp, IsInRange, IsInaccuracy};
 ghost use Rattle.utc_routines.specs.Comparison.{RefusesUnlike};
 ghost use Rattle.utc_routines.specs.Formula.{IsSmall};
 ghost use Rattle.utc_routines.specs.Interval.{IsHalf};
@@ -19,6 +19,14 @@ use utc_value::Utc;
 /// `Unspecified` exactly where the inaccuracy is; else `Overflow` exactly where one of the three is
 /// no `i64`.
 pub fn point(a: Utc) -> Result<(Utc, Utc, Utc), UtcFault>
+    ensures points { (x y z : Stamp) → (result ≡ Ok (x, y, z)) ↔ (ArePoints a x y z × IsInRange x × IsInRange y × IsInRange z) }
+    ensures refused { (fault : UtcFault) → (result ≡ Err fault) ↔ RefusesPoints a fault }
+{
+    points_of(a)
+}
+
+// The three points, where the inaccuracy is specified.
+fn points_of(a: Utc) -> Result<(Utc, Utc, Utc), UtcFault>
     ensures ok { IfOk result (λ points. ArePoints a points.0 points.1 points.2) }
     ensures in_range { IfOk result (λ points. IsInRange points.0 × IsInRange points.1 × IsInRange points.2) }
     ensures err { IfErr result (RefusesPoints a) }
@@ -37,6 +45,14 @@ pub fn point(a: Utc) -> Result<(Utc, Utc, Utc), UtcFault>
 ///
 /// `Kinds` exactly where the kinds differ. It never overflows.
 pub fn span(a: Utc, b: Utc) -> Result<Utc, UtcFault>
+    ensures span { (r : Stamp) → (result ≡ Ok r) ↔ (Spans a b r × IsInRange r) }
+    ensures refused { (fault : UtcFault) → (result ≡ Err fault) ↔ RefusesUnlike a b fault }
+{
+    spanned(a, b)
+}
+
+// The span, kinds first.
+fn spanned(a: Utc, b: Utc) -> Result<Utc, UtcFault>
     ensures ok { IfOk result (Spans a b) }
     ensures in_range { IfOk result IsInRange }
     ensures err { IfErr result (RefusesUnlike a b) }
@@ -53,6 +69,14 @@ pub fn span(a: Utc, b: Utc) -> Result<Utc, UtcFault>
 /// `Kinds` exactly where the kinds differ; else `OutOfOrder` exactly where both are specified and the
 /// earliest of `a` is after the latest of `b`; else `Overflow` exactly where the time is no `i64`.
 pub fn bound(a: Utc, b: Utc) -> Result<Utc, UtcFault>
+    ensures bound { (r : Stamp) → (result ≡ Ok r) ↔ (Bounds a b r × IsInRange r) }
+    ensures refused { (fault : UtcFault) → (result ≡ Err fault) ↔ RefusesBound a b fault }
+{
+    bounded(a, b)
+}
+
+// The bound, kinds first and then the order.
+fn bounded(a: Utc, b: Utc) -> Result<Utc, UtcFault>
     ensures ok { IfOk result (Bounds a b) }
     ensures in_range { IfOk result IsInRange }
     ensures err { IfErr result (RefusesBound a b) }
@@ -67,7 +91,7 @@ pub fn bound(a: Utc, b: Utc) -> Result<Utc, UtcFault>
     Ok(made(a.kind(), time, found.inaccuracy, a.tdf()))
 }
 
-/// A time, known exactly, in place of that of `a`.
+// A time, known exactly, in place of that of `a`.
 fn exact_at(a: Utc, time: i64) -> Utc
     ensures value { result ≡ exact_at a time }
     ensures in_range { IsInRange result }
@@ -75,14 +99,14 @@ fn exact_at(a: Utc, time: i64) -> Utc
     made(a.kind(), time, Some(0), a.tdf())
 }
 
-/// The time and the inaccuracy of a result.
+// The time and the inaccuracy of a result.
 #[derive(Clone, Copy, Debug)]
 struct Found {
     time: i128,
     inaccuracy: Option<u64>,
 }
 
-/// The tightest interval that holds both.
+// The tightest interval that holds both.
 fn span_of(a: Utc, b: Utc) -> Found
     ensures interval { IsSpan a b result.time result.inaccuracy }
     ensures in_range { IsInaccuracy result.inaccuracy }
@@ -97,8 +121,8 @@ fn span_of(a: Utc, b: Utc) -> Found
     )
 }
 
-/// The tightest interval from the earliest of `a` to the latest of `b`; `None` where they are out of
-/// order.
+// The tightest interval from the earliest of `a` to the latest of `b`; `None` where they are out of
+// order.
 fn bound_of(a: Utc, b: Utc) -> Option<Found>
     ensures order { MatchOption result (IsOutOfOrder a b) (λ _. ¬ IsOutOfOrder a b) }
     ensures interval { IfSome result (λ found. IsBound a b found.time found.inaccuracy) }
@@ -113,7 +137,7 @@ fn bound_of(a: Utc, b: Utc) -> Option<Found>
     Some(tightest(ends.first.low, ends.second.high))
 }
 
-/// The interval from `low` to `high`, its middle rounded toward the lesser.
+// The interval from `low` to `high`, its middle rounded toward the lesser.
 fn tightest(low: i128, high: i128) -> Found
     requires order { low ≤ℤ high }
     requires low_small { IsSmall low }
@@ -129,7 +153,7 @@ fn tightest(low: i128, high: i128) -> Found
     }
 }
 
-/// The middle of two times, with no inaccuracy that could be stated.
+// The middle of two times, with no inaccuracy that could be stated.
 fn halfway(a: Utc, b: Utc) -> Found
     ensures time { IsHalf (a.time +ℤ b.time) result.time }
     ensures inaccuracy { result.inaccuracy ≡ None }

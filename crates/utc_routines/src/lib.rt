@@ -1,5 +1,6 @@
 //! What may be done with timestamps: sums, differences, multiples, comparisons, points, spans and
-//! bounds, each with the exact interval of its result (after C310's utc routines).
+//! bounds, each with the exact interval of its result. The exact rules, and what is refused, are our own choice,
+//! after C310's utc routines.
 //!
 //! Times and inaccuracies are in units of 100 ns. The members of a timestamp are the whole times from
 //! its earliest to its latest. No routine takes memory, and none wraps at any operands.
@@ -10,11 +11,13 @@ use thiserror::Error;
 mod arithmetic;
 mod comparison;
 mod intervals;
+mod laws;
 mod parts;
 
 pub use arithmetic::{abs, add, mul, sub, with_tdf};
 pub use comparison::{cmp_interval, cmp_mid};
 pub use intervals::{bound, point, span};
+pub use laws::{no_operands_are_both, one_refusal, one_result};
 
 #[cfg(test)]
 mod tests;

@@ -10,7 +10,7 @@ ghost use Rattle.utc_routines.specs.Interval.{stated, is_either_unspecified};
 use crate::UtcFault;
 use utc_value::{Kind, MAX_INACCURACY, Utc};
 
-/// A result's time, where it is an `i64`.
+// A result's time, where it is an `i64`.
 pub fn whole_time(units: i128) -> Result<i64, UtcFault>
     ensures ok { OkIff result (FitsSigned w64 units) units }
     ensures err { IfErr result (λ fault. fault ≡ UtcFault.Overflow) }
@@ -21,7 +21,7 @@ pub fn whole_time(units: i128) -> Result<i64, UtcFault>
     }
 }
 
-/// A result's inaccuracy, unspecified where it is too large to be stated.
+// A result's inaccuracy, unspecified where it is too large to be stated.
 pub fn stated(units: u128) -> Option<u64>
     ensures value { result ≡ stated units }
     ensures in_range { IsInaccuracy result }
@@ -33,7 +33,7 @@ pub fn stated(units: u128) -> Option<u64>
     }
 }
 
-/// The inaccuracies of two operands together.
+// The inaccuracies of two operands together.
 pub fn added(a: Option<u64>, b: Option<u64>) -> Option<u64>
     ensures value { result ≡ added a b }
     ensures in_range { IsInaccuracy result }
@@ -44,7 +44,7 @@ pub fn added(a: Option<u64>, b: Option<u64>) -> Option<u64>
     }
 }
 
-/// An inaccuracy as many times as `k` says, whichever its sign.
+// An inaccuracy as many times as `k` says, whichever its sign.
 pub fn multiplied(inaccuracy: Option<u64>, k: i32) -> Option<u64>
     ensures value { result ≡ multiplied inaccuracy k }
     ensures in_range { IsInaccuracy result }
@@ -55,7 +55,7 @@ pub fn multiplied(inaccuracy: Option<u64>, k: i32) -> Option<u64>
     }
 }
 
-/// The timestamp of these parts.
+// The timestamp of these parts.
 pub fn made(kind: Kind, time: i64, inaccuracy: Option<u64>, tdf: i16) -> Utc
     requires inaccuracy { IsInaccuracy inaccuracy }
     requires tdf { IsTdfOf kind tdf }
@@ -67,21 +67,21 @@ pub fn made(kind: Kind, time: i64, inaccuracy: Option<u64>, tdf: i16) -> Utc
     }
 }
 
-/// Whether both are moments or both are lengths.
+// Whether both are moments or both are lengths.
 pub fn are_alike(a: Utc, b: Utc) -> bool
     ensures { IsTrue result ↔ (a.kind ≡ b.kind) }
 {
     a.kind() == b.kind()
 }
 
-/// The ends of a timestamp's interval, in units of 100 ns.
+// The ends of a timestamp's interval, in units of 100 ns.
 #[derive(Clone, Copy, Debug)]
 pub struct Ends {
     pub low: i128,
     pub high: i128,
 }
 
-/// The earliest and the latest of a timestamp, where its inaccuracy is specified.
+// The earliest and the latest of a timestamp, where its inaccuracy is specified.
 pub fn ends_of(a: Utc) -> Option<Ends>
     ensures value { MatchOption result (a.inaccuracy ≡ None) (λ ends. AreEnds a ends.low ends.high) }
     ensures small { IfSome result (λ ends. IsSmall ends.low × IsSmall ends.high) }
@@ -100,14 +100,14 @@ pub fn ends_of(a: Utc) -> Option<Ends>
     }
 }
 
-/// The ends of two intervals.
+// The ends of two intervals.
 #[derive(Clone, Copy, Debug)]
 pub struct BothEnds {
     pub first: Ends,
     pub second: Ends,
 }
 
-/// The ends of two intervals, where both are specified.
+// The ends of two intervals, where both are specified.
 pub fn both_ends(a: Utc, b: Utc) -> Option<BothEnds>
     ensures value { MatchOption result (IsTrue (is_either_unspecified a b))
         (λ ends. AreEnds a ends.first.low ends.first.high × AreEnds b ends.second.low ends.second.high) }
@@ -119,7 +119,7 @@ pub fn both_ends(a: Utc, b: Utc) -> Option<BothEnds>
     Some(BothEnds { first, second })
 }
 
-/// Half of a sum, rounded toward the lesser.
+// Half of a sum, rounded toward the lesser.
 pub fn half(sum: i128) -> i128
     ensures { IsHalf sum result }
 {

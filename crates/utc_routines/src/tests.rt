@@ -2,17 +2,17 @@ use super::*;
 use std::process::Abort;
 use utc_value::{MAX_INACCURACY, Utc};
 
-/// A moment, shown in UTC.
+// A moment, shown in UTC.
 fn moment(rt: &impl Abort, time: i64, inaccuracy: Option<u64>) -> Utc {
     Utc::absolute(time, inaccuracy, 0).expect(rt, "in range")
 }
 
-/// A moment, shown with a time differential factor.
+// A moment, shown with a time differential factor.
 fn shown(rt: &impl Abort, time: i64, inaccuracy: Option<u64>, tdf: i16) -> Utc {
     Utc::absolute(time, inaccuracy, tdf).expect(rt, "in range")
 }
 
-/// A length of time.
+// A length of time.
 fn length(rt: &impl Abort, time: i64, inaccuracy: Option<u64>) -> Utc {
     Utc::relative(time, inaccuracy).expect(rt, "in range")
 }
@@ -166,4 +166,11 @@ fn factors_change_alone(rt: HostRuntime) {
     assert!(rt; with_tdf(at, -1439) == Ok(shown(rt, 5, Some(2), -1439)));
     assert!(rt; with_tdf(at, 1440) == Err(UtcFault::TdfRange));
     assert!(rt; with_tdf(at, -1440) == Err(UtcFault::TdfRange));
+}
+
+#[test]
+fn the_laws_have_no_effect() {
+    one_result();
+    no_operands_are_both();
+    one_refusal();
 }

@@ -20,11 +20,20 @@ no_fault : (fault : PrintFault) (time tdf : ℤ) → Fault fault time tdf → Is
 no_fault fault time tdf (inl a) t y = a.1 t
 no_fault fault time tdf (inr b) t y = b.2 y
 
-pub succeeds : (r : Result Civil PrintFault) (u : Stamp) (tdf : ℤ) → u.kind ≡ Absolute → Value r u.time tdf → IfErr r (λ fault. Fault fault u.time tdf) → IsOk r ↔ IsPrintable u tdf
-succeeds (Ok c) u tdf kind value err = (λ ok. record { kind = kind; tdf_in = value.0; year = subst IsInYears value.2 (in_years c value.1) }, λ p. refl)
+pub succeeds : (r : Result Civil PrintFault) (u : Stamp) (tdf : ℤ) → u.kind ≡ Absolute → Value r u.time tdf
+    → IfErr r (λ fault. Fault fault u.time tdf) → IsOk r ↔ IsPrintable u tdf
+succeeds (Ok c) u tdf kind value err = (
+  λ ok. record {
+    kind = kind;
+    tdf_in = value.0;
+    year = subst IsInYears value.2 (in_years c value.1);
+  },
+  λ p. refl,
+)
 succeeds (Err fault) u tdf kind value err = (λ ok. absurd cc, λ p. absurd (no_fault fault u.time tdf err p.tdf_in p.year))
 
-pub only : (r : Result Civil PrintFault) (time tdf : ℤ) → Value r time tdf → IfErr r (λ fault. Fault fault time tdf) → (c : Civil) → IsCivil c → IsTdf tdf → civil_count c ≡ local_count time tdf → r ≡ Ok c
+pub only : (r : Result Civil PrintFault) (time tdf : ℤ) → Value r time tdf → IfErr r (λ fault. Fault fault time tdf)
+    → (c : Civil) → IsCivil c → IsTdf tdf → civil_count c ≡ local_count time tdf → r ≡ Ok c
 only (Ok d) time tdf value err c h t e = ap (λ (x : Civil). Ok x) (same_civil d c value.1 h (value.2 ∙ sym e))
 only (Err fault) time tdf value err c h t e = absurd (no_fault fault time tdf err t (subst IsInYears e (in_years c h)))
 
@@ -37,11 +46,14 @@ fault_is a b e = cc
 apart : TdfRange ≡ YearRange → ⊥
 apart e = absurd cc
 
-year_of : (fault : PrintFault) (time tdf : ℤ) → Fault fault time tdf → ((fault ≡ YearRange) ↔ (IsTdf tdf × (¬ IsInYears (local_count time tdf))))
+year_of : (fault : PrintFault) (time tdf : ℤ) → Fault fault time tdf
+    → ((fault ≡ YearRange) ↔ (IsTdf tdf × (¬ IsInYears (local_count time tdf))))
 year_of fault time tdf (inl a) = (λ e. absurd (apart (sym a.0 ∙ e)), λ p. absurd (a.1 p.0))
 year_of fault time tdf (inr b) = (λ e. (b.1, b.2), λ p. b.0)
 
-pub year : (r : Result Civil PrintFault) (u : Stamp) (tdf : ℤ) → u.kind ≡ Absolute → Value r u.time tdf → IfErr r (λ fault. Fault fault u.time tdf) → IsErrOf r YearRange ↔ ((u.kind ≡ Absolute) × IsTdf tdf × (¬ IsInYears (local_count u.time tdf)))
+pub year : (r : Result Civil PrintFault) (u : Stamp) (tdf : ℤ) → u.kind ≡ Absolute → Value r u.time tdf
+    → IfErr r (λ fault. Fault fault u.time tdf)
+    → IsErrOf r YearRange ↔ ((u.kind ≡ Absolute) × IsTdf tdf × (¬ IsInYears (local_count u.time tdf)))
 year (Ok c) u tdf kind value err = (λ e. absurd cc, λ p. absurd (p.2 (subst IsInYears value.2 (in_years c value.1))))
 year (Err fault) u tdf kind value err =
     let w = year_of fault u.time tdf err in

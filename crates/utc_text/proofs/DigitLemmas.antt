@@ -7,7 +7,7 @@ use Rattle.std.proofs.lemmas.Int.Digits.{digits_value-lt}
 use Rattle.std.specs.List.{prefix_len}
 use Rattle.std.specs.Char.{digit_value, is_ascii_digit}
 use Rattle.std.specs.Str.Parse.{AllDigits, digits_value}
-use Rattle.utc_text.specs.FirstWrong.{BeginsNot}
+use Rattle.utc_text.specs.Grammar.{BeginsNot}
 
 pub digit_octet : (c : ℕ) → digit_value c < 10 → (48 ≤ c) × (c ≤ 57) × (digit_value c ≡ c - 48)
 digit_octet c h = grind (arith, nat_tests)
@@ -25,8 +25,10 @@ AllDigits-take zero ds h = tt
 AllDigits-take (suc n) [] h = tt
 AllDigits-take (suc n) (d ∷ ds) h = (h.0, AllDigits-take n ds h.1)
 
-run_from : (bs : List ℕ) (x : ℕ) (b : Bool) → is_ascii_digit x ≡ b → AllDigits 10 (take (prefix_len is_ascii_digit bs) bs) → AllDigits 10 (take (cond b (1 + prefix_len is_ascii_digit bs) 0) (x ∷ bs))
-run_from bs x true e h = let n : 1 + prefix_len is_ascii_digit bs ≡ suc (prefix_len is_ascii_digit bs) = omega arith in rw n (digit_tested x e, h)
+run_from : (bs : List ℕ) (x : ℕ) (b : Bool) → is_ascii_digit x ≡ b → AllDigits 10 (take (prefix_len is_ascii_digit bs) bs)
+    → AllDigits 10 (take (cond b (1 + prefix_len is_ascii_digit bs) 0) (x ∷ bs))
+run_from bs x true e h =
+    let n : 1 + prefix_len is_ascii_digit bs ≡ suc (prefix_len is_ascii_digit bs) = omega arith in rw n (digit_tested x e, h)
 run_from bs x false e h = tt
 
 -- the digits at the front are digits
@@ -34,7 +36,9 @@ pub AllDigits-run : (bs : List ℕ) → AllDigits 10 (take (prefix_len is_ascii_
 AllDigits-run [] = tt
 AllDigits-run (x ∷ bs) = run_from bs x (is_ascii_digit x) refl (AllDigits-run bs)
 
-ends_from : (bs : List ℕ) (x : ℕ) (b : Bool) → is_ascii_digit x ≡ b → BeginsNot is_ascii_digit (drop (prefix_len is_ascii_digit bs) bs) → BeginsNot is_ascii_digit (drop (cond b (1 + prefix_len is_ascii_digit bs) 0) (x ∷ bs))
+ends_from : (bs : List ℕ) (x : ℕ) (b : Bool) → is_ascii_digit x ≡ b
+    → BeginsNot is_ascii_digit (drop (prefix_len is_ascii_digit bs) bs)
+    → BeginsNot is_ascii_digit (drop (cond b (1 + prefix_len is_ascii_digit bs) 0) (x ∷ bs))
 ends_from bs x true e h = let n : 1 + prefix_len is_ascii_digit bs ≡ suc (prefix_len is_ascii_digit bs) = omega arith in rw n h
 ends_from bs x false e h = e
 

@@ -16,20 +16,21 @@ use Rattle.jiff_core.proofs.SignedLemmas.{signed_arith}
 use Rattle.utc_value.specs.Stamp.{IsTdf, IsInaccuracy}
 use Rattle.utc_text.specs.declared.calendar.Civil.{Civil}
 use Rattle.utc_text.specs.Civil.{IsCivil}
-use Rattle.utc_text.specs.Fields.{units_of}
-use Rattle.utc_text.specs.Reading.{signed}
-use Rattle.utc_text.specs.Printing.{clock_shown, tdf_shown, inaccuracy_shown, absolute_shown, days_shown, relative_shown}
-use Rattle.utc_text.specs.Spelling.{digits, IsFraction, IsClockField, IsTdfField, tdf_said, IsInaccuracyField, inaccuracy_said, seconds_units, IsAbsolute, absolute_said, IsRelative, relative_said, relative_units}
+use Rattle.utc_text.specs.Grammar.{units_of, signed, digits, IsFraction, tdf_said, IsInaccuracyField, inaccuracy_said, seconds_units, relative_units}
+use Rattle.utc_text.specs.Printing.{clock_shown, tdf_shown, inaccuracy_shown, absolute_shown, days_shown}
+use Rattle.utc_text.specs.Written.{relative_divided, IsClockField, IsTdfField, IsAbsolute, absolute_said, IsRelative, relative_said}
 
 pub digits_step : (k n : ℕ) → (k ≡ 0 → ⊥) → digits k n ≡ digits (k - 1) (n / 10) ++ (48 + n % 10) ∷ []
 unfolding digits
 digits_step zero n h = absurd (h refl)
 digits_step (suc k) n h = let back : suc k - 1 ≡ k = omega arith in rw back refl
 
-pub pushed_digits : (old : List ℕ) (k n : ℕ) → (k ≡ 0 → ⊥) → (old ++ digits (k - 1) (n / 10)) ++ (48 + n % 10) ∷ [] ≡ old ++ digits k n
+pub pushed_digits : (old : List ℕ) (k n : ℕ) → (k ≡ 0 → ⊥)
+    → (old ++ digits (k - 1) (n / 10)) ++ (48 + n % 10) ∷ [] ≡ old ++ digits k n
 pushed_digits old k n h = append_assoc old (digits (k - 1) (n / 10)) ((48 + n % 10) ∷ []) ∙ ap (λ (x : List ℕ). old ++ x) (sym (digits_step k n h))
 
-pub pushed_decimal : (old : List ℕ) (n : ℕ) → 10 ≤ n → n < 2 ^ 64 → (old ++ decimal (n / 10)) ++ (48 + n % 10) ∷ [] ≡ old ++ decimal n
+pub pushed_decimal : (old : List ℕ) (n : ℕ) → 10 ≤ n → n < 2 ^ 64
+    → (old ++ decimal (n / 10)) ++ (48 + n % 10) ∷ [] ≡ old ++ decimal n
 pushed_decimal old n h small = append_assoc old (decimal (n / 10)) ((48 + n % 10) ∷ []) ∙ ap (λ (x : List ℕ). old ++ x) (sym (decimal_step n h small))
 
 pub pushed_digit : (old : List ℕ) (n : ℕ) → n < 10 → old ++ (48 + n % 10) ∷ [] ≡ old ++ decimal n
@@ -77,14 +78,16 @@ decimal_right k n h lt small =
     let numeral = decimal_is_IsNumeral n small in
     record { all = numeral.0.1; some = numeral.0.0; few = length-decimal-le k n h lt small; value = numeral.1 }
 
-inaccuracy_right : (i : Option ℕ) → IsInaccuracy i → IsInaccuracyField (inaccuracy_shown i) × (inaccuracy_said (inaccuracy_shown i) ≡ i)
+inaccuracy_right : (i : Option ℕ) → IsInaccuracy i
+    → IsInaccuracyField (inaccuracy_shown i) × (inaccuracy_said (inaccuracy_shown i) ≡ i)
 inaccuracy_right None h = (tt, refl)
 inaccuracy_right (Some n) h =
     let s = decimal_right 9 (n / 10_000_000) (omega arith) (omega arith) (omega arith) in
     let whole : seconds_units (decimal (n / 10_000_000)) (Some (digits 7 (n % 10_000_000))) ≡ n = rw (s.value, units_of-digits (n % 10_000_000) (omega arith)) (omega arith) in
     ((s.all, s.some, s.few, fraction_right (n % 10_000_000), rw whole h), ap (λ (x : ℕ). Some x) whole)
 
-clock_right : (hour minute second units : ℕ) → hour < 24 → minute < 60 → second < 60 → IsClockField (clock_shown hour minute second units)
+clock_right : (hour minute second units : ℕ) → hour < 24 → minute < 60 → second < 60
+    → IsClockField (clock_shown hour minute second units)
 clock_right hour minute second units h m s = record { hour = omega arith; minute = omega arith; second = omega arith; fraction = fraction_right units }
 
 tdf_right : (tdf : ℤ) → IsTdf tdf → IsTdfField (Some (tdf_shown tdf)) × (tdf_said (Some (tdf_shown tdf)) ≡ tdf)
@@ -106,7 +109,8 @@ pos_abs (pos n) h = refl
 pos_abs (negsuc n) h = absurd (omega (arith, signed_arith, h))
 
 -- the fields that are printed are right
-pub absolute_right : (c : Civil) (tdf : ℤ) (i : Option ℕ) → IsCivil c → IsTdf tdf → IsInaccuracy i → IsAbsolute (absolute_shown c tdf i)
+pub absolute_right : (c : Civil) (tdf : ℤ) (i : Option ℕ) → IsCivil c → IsTdf tdf → IsInaccuracy i
+    → IsAbsolute (absolute_shown c tdf i)
 absolute_right c tdf i h t n =
     let year : pos (unsigned_abs c.year) ≡ c.year = pos_abs c.year (omega (arith, signed_arith, h.year)) in
     let day : IsInRange 1 (days_in_month (pos (unsigned_abs c.year)) c.month) c.day = subst (λ (y : ℤ). IsInRange 1 (days_in_month y c.month) c.day) (sym year) h.day in
@@ -118,7 +122,8 @@ absolute_right c tdf i h t n =
     }
 
 -- and say what was printed
-pub absolute_said_shown : (c : Civil) (tdf : ℤ) (i : Option ℕ) → IsCivil c → IsTdf tdf → IsInaccuracy i → absolute_said (absolute_shown c tdf i) ≡ record { civil = c; tdf = tdf; inaccuracy = i }
+pub absolute_said_shown : (c : Civil) (tdf : ℤ) (i : Option ℕ) → IsCivil c → IsTdf tdf → IsInaccuracy i
+    → absolute_said (absolute_shown c tdf i) ≡ record { civil = c; tdf = tdf; inaccuracy = i }
 absolute_said_shown c tdf i h t n =
     let year : pos (unsigned_abs c.year) ≡ c.year = pos_abs c.year (omega (arith, signed_arith, h.year)) in
     rw (year, units_of-digits c.units h.units, (tdf_right tdf t).1, (inaccuracy_right i n).1) refl
@@ -131,10 +136,12 @@ days_right n h =
       | inr le ↦ rw (le-ltb n 10 le) s
     ]
 
-length_parts : (n : ℕ) → n / 864_000_000_000 * 864_000_000_000 + (((n / 36_000_000_000 % 24 * 60 + n / 600_000_000 % 60) * 60 + n / 10_000_000 % 60) * 10_000_000 + n % 10_000_000) ≡ n
+pub length_parts : (n : ℕ)
+    → n / 864_000_000_000 * 864_000_000_000 + (((n / 36_000_000_000 % 24 * 60 + n / 600_000_000 % 60) * 60 + n / 10_000_000 % 60) * 10_000_000 + n % 10_000_000) ≡ n
 length_parts n = omega arith
 
-relative_whole : (time : ℤ) (i : Option ℕ) → unsigned_abs time ≤ 2 ^ 63 → relative_units (relative_shown time i) ≡ unsigned_abs time
+relative_whole : (time : ℤ) (i : Option ℕ) → unsigned_abs time ≤ 2 ^ 63
+    → relative_units (relative_divided time i) ≡ unsigned_abs time
 relative_whole time i h =
     let days = days_right (unsigned_abs time / 864_000_000_000) (omega arith) in
     rw (days.value, units_of-digits (unsigned_abs time % 10_000_000) (omega arith)) (length_parts (unsigned_abs time))
@@ -143,12 +150,12 @@ signed_abs : (time : ℤ) → signed (int_lt time (pos 0)) (unsigned_abs time) �
 signed_abs (pos n) = rw (le-ltb n 0 (omega arith)) refl
 signed_abs (negsuc n) = refl
 
-pub relative_right : (time : ℤ) (i : Option ℕ) → FitsSigned w64 time → IsInaccuracy i → IsRelative (relative_shown time i)
+pub relative_right : (time : ℤ) (i : Option ℕ) → FitsSigned w64 time → IsInaccuracy i → IsRelative (relative_divided time i)
 relative_right time i h n =
     let small : unsigned_abs time ≤ 2 ^ 63 = abs_small time h in
     let days = days_right (unsigned_abs time / 864_000_000_000) (omega arith) in
     let whole = relative_whole time i small in
-    let same : signed (int_lt time (pos 0)) (relative_units (relative_shown time i)) ≡ time = rw whole (signed_abs time) in
+    let same : signed (int_lt time (pos 0)) (relative_units (relative_divided time i)) ≡ time = rw whole (signed_abs time) in
     record {
       days = (days.all, days.some, days.few, rw days.value (omega arith));
       clock = clock_right _ _ _ _ (omega arith) (omega arith) (omega arith);
@@ -156,8 +163,9 @@ relative_right time i h n =
       inaccuracy = (inaccuracy_right i n).0;
     }
 
-pub relative_said_shown : (time : ℤ) (i : Option ℕ) → FitsSigned w64 time → IsInaccuracy i → relative_said (relative_shown time i) ≡ record { time = time; inaccuracy = i }
+pub relative_said_shown : (time : ℤ) (i : Option ℕ) → FitsSigned w64 time → IsInaccuracy i
+    → relative_said (relative_divided time i) ≡ record { time = time; inaccuracy = i }
 relative_said_shown time i h n =
     let whole = relative_whole time i (abs_small time h) in
-    let same : signed (int_lt time (pos 0)) (relative_units (relative_shown time i)) ≡ time = rw whole (signed_abs time) in
+    let same : signed (int_lt time (pos 0)) (relative_units (relative_divided time i)) ≡ time = rw whole (signed_abs time) in
     rw (same, (inaccuracy_right i n).1) refl

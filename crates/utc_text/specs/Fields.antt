@@ -1,8 +1,9 @@
--- What a field of a text is, from the octets that stand where it begins: its value with the octets behind it, or nothing where those octets begin with no right text of it. A separator belongs to the field behind it.
+-- What the readers of single fields answer, from the octets that stand where a field begins: its value with the octets behind it, or nothing where those octets begin with no right text of it. For the contracts of private functions and for proofs: no public clause reaches it.
 use Rattle.std.specs.Prelude.{◌≡◌, ℕ, ◌+◌, ◌-◌, ◌*◌, ◌^◌, ◌==◌, nat_le, Bool, ◌&&◌, ◌||◌, if◌then◌else◌, List, [], ◌∷◌, length, take, drop, Option, Some, None, option_and_then, codes, nat_eq}
 use Rattle.std.specs.List.{prefix_len, starts_with}
 use Rattle.std.specs.Char.{is_ascii_digit}
 use Rattle.std.specs.Str.Parse.{digits_value}
+use Rattle.utc_text.specs.Grammar.{units_of}
 
 infixl 10 ◌>>=◌
 abbrev pub ◌>>=◌ : {A B : Type 0} → Option A → (A → Option B) → Option B
@@ -39,10 +40,6 @@ digits_at most here =
     if nat_le (prefix_len is_ascii_digit here) most
     then Some (take (prefix_len is_ascii_digit here) here, drop (prefix_len is_ascii_digit here) here)
     else None
-
--- the units of 100 ns that the digits behind a point write
-abbrev pub units_of : List ℕ → ℕ
-units_of digits = digits_value 10 digits * 10 ^ (7 - length digits)
 
 -- nothing, or a point and at most seven digits
 unfoldable pub fraction_at : List ℕ → Option (ℕ × List ℕ)

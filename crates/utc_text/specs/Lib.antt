@@ -1,7 +1,8 @@
 pub mod Civil
 pub mod Fields
 pub mod FirstWrong
+pub mod Grammar
 pub mod Printing
 pub mod Reading
-pub mod Spelling
 pub mod Texts
+pub mod Written

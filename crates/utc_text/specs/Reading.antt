@@ -1,11 +1,15 @@
--- Texts of times, read field by field in their order: the value, or the first field that is not right with its place.
-use Rattle.std.specs.Prelude.{◌≡◌, ℕ, ◌+◌, ◌-◌, ◌*◌, ◌^◌, ◌==◌, nat_le, nat_lt, min, Bool, true, false, if◌then◌else◌, List, [], ◌∷◌, length, Option, Some, None, Result, Ok, Err, ℤ, pos, neg_ℤ}
+-- What the readers of texts answer, field by field: the value, or a fault. For the contracts of private functions and for proofs: no public clause reaches it.
+use Rattle.std.specs.Prelude.{◌≡◌, ℕ, ◌+◌, ◌*◌, ◌^◌, ◌==◌, nat_le, nat_lt, Bool, true, false, if◌then◌else◌, List, [], ◌∷◌, length, Option, Some, None, Result, Ok, Err, ℤ, pos}
 use Rattle.jiff_core.specs.Calendar.{days_in_month}
 use Rattle.utc_text.specs.declared.fault.TextField.{TextField}
 use Rattle.utc_text.specs.declared.fault.TextField.TheVariants.{Year, Month, Day, Days, Hour, Minute, Second, Fraction, TdfHour, TdfMinute, Inaccuracy, Tail}
 use Rattle.utc_text.specs.declared.fault.TextFault.{TextFault}
 use Rattle.utc_text.specs.declared.calendar.Civil.{Civil}
+use Rattle.utc_value.specs.Stamp.{Stamp, absolute_stamp, relative_stamp}
 use Rattle.utc_text.specs.Civil.{clock_units}
+use Rattle.utc_text.specs.Grammar.{YearMonthDay, signed}
+use Rattle.utc_text.specs.FirstWrong.{fault_at}
+use Rattle.utc_text.specs.Texts.{utc_count}
 use Rattle.utc_text.specs.Fields.{part_at, year_at, fraction_at, tdf_hour_at, inaccuracy_at, days_at}
 
 infixl 10 ◌>>=◌
@@ -13,20 +17,10 @@ abbrev pub ◌>>=◌ : {A B : Type 0} → Result A TextFault → (A → Result B
 (Ok x) >>= f = f x
 (Err e) >>= f = Err e
 
--- a field that is not right, at the place where it should begin: how many octets of the text stand before what is left of it
-unfoldable pub fault_at : List ℕ → TextField → List ℕ → TextFault
-fault_at text field left = record { field = field; offset = min (length text - length left) (2 ^ 32 - 1) }
-
 -- what the field is, or the fault that it is not right
 unfoldable pub right_at : {A : Type 0} → List ℕ → TextField → List ℕ → Option A → Result A TextFault
 right_at text field left None = Err (fault_at text field left)
 right_at text field left (Some x) = Ok x
-
--- a date
-pub record YearMonthDay : Type 0 where
-  pub year : ℕ
-  pub month : ℕ
-  pub day : ℕ
 
 unfoldable pub date_of : List ℕ → List ℕ → Result (YearMonthDay × List ℕ) TextFault
 date_of text left = do
@@ -49,11 +43,6 @@ clock_of text left = do
   second ← right_at text Second minute.1 (part_at 58 0 59 minute.1)
   units ← right_at text Fraction second.1 (fraction_at second.1)
   Ok (record { hour = hour.0; minute = minute.0; second = second.0; units = units.0 }, units.1)
-
--- a number with a sign
-abbrev pub signed : Bool → ℕ → ℤ
-signed false n = pos n
-signed true n = neg_ℤ (pos n)
 
 -- the minutes behind a sign and hours, which have to stand there
 unfoldable pub tdf_minute_of : List ℕ → List ℕ → Option (Bool × ℕ) → Result (ℤ × List ℕ) TextFault
@@ -119,6 +108,20 @@ length_of text = do
   time ← time_of text (sign_at text).0 (sign_at text).1
   inaccuracy ← end_of text time.1
   Ok (record { time = time.0; inaccuracy = inaccuracy })
+
+-- the timestamp of what an absolute text says: its civil time is local
+abbrev pub moment_stamp : Moment → Stamp
+moment_stamp m = absolute_stamp (utc_count m.civil m.tdf) m.inaccuracy m.tdf
+
+unfoldable pub absolute_of : List ℕ → Result Stamp TextFault
+absolute_of text = moment_of text >>= λ m. Ok (moment_stamp m)
+
+-- the timestamp of what a relative text says
+abbrev pub length_stamp : Length → Stamp
+length_stamp l = relative_stamp l.time l.inaccuracy
+
+unfoldable pub relative_of : List ℕ → Result Stamp TextFault
+relative_of text = length_of text >>= λ l. Ok (length_stamp l)
 
 -- what a reader of the code answers is what the definition gives, with each slice seen as its octets
 abbrev pub GivesText : {X Y : Type 0} → (X → Y) → Result X TextFault → Result Y TextFault → Type 0

@@ -5,22 +5,29 @@ ghost use Rattle.std.specs.Int.{IsInRange};
 ghost use Rattle.jiff_core.specs.Calendar.{days_in_month};
 ghost use Rattle.utc_text.specs.Civil.{IsCivil, IsInYears, IsWrittenDay, IsWrittenYear, civil_count, day_number, midnight_count};
 
+use crate::units::SECOND;
 use jiff::ToSpan;
 use jiff::civil::{Date, date};
 
-/// Units of 100 ns in a day.
+// The first year that is written.
+pub(crate) const FIRST_YEAR: u16 = 1582;
+
+// The last year that is written.
+const LAST_YEAR: u16 = 9999;
+
+// Units of 100 ns in a day.
 const DAY: i128 = 864_000_000_000;
 
-/// Days from 1582-10-15 to 1970-01-01.
+// Days from 1582-10-15 to 1970-01-01.
 const DAYS_TO_1970: i64 = 141_427;
 
-/// The day number of 1582-01-01, from 1582-10-15.
+// The day number of 1582-01-01, from 1582-10-15.
 const FIRST_DAY: i128 = -287;
 
-/// The day number of 10000-01-01, from 1582-10-15.
+// The day number of 10000-01-01, from 1582-10-15.
 const END_DAY: i128 = 3_074_324;
 
-/// The count of 1970-01-01 00:00:00.
+// The count of 1970-01-01 00:00:00.
 const COUNT_OF_1970: i128 = 122_192_928_000_000_000;
 
 /// A date of the Gregorian calendar and a time of day.
@@ -42,7 +49,7 @@ pub struct Civil {
     pub units: u32,
 }
 
-/// The days of a month.
+// The days of a month.
 pub(crate) fn month_days(year: u16, month: u8) -> u8
     requires year { IsWrittenYear (pos year) }
     requires month { IsInRange 1 12 month }
@@ -51,14 +58,14 @@ pub(crate) fn month_days(year: u16, month: u8) -> u8
     date(year as i16, month as i8, 1).days_in_month() as u8
 }
 
-/// The count of a date's first midnight.
+// The count of a date's first midnight.
 fn count_of_midnight(day: Date) -> i128
     ensures { result ≡ midnight_count day.year day.month day.day }
 {
     day.duration_since(date(1970, 1, 1)).as_nanos() / 100 + COUNT_OF_1970
 }
 
-/// The count of a civil time, taken as UTC.
+// The count of a civil time, taken as UTC.
 pub(crate) fn count_of(c: Civil) -> i128
     requires { IsCivil c }
     ensures { result ≡ civil_count c }
@@ -69,7 +76,7 @@ pub(crate) fn count_of(c: Civil) -> i128
     midnight + (seconds * 10_000_000 + i128::from(c.units))
 }
 
-/// The date that many days after 1582-10-15.
+// The date that many days after 1582-10-15.
 fn date_of_day(day: i64) -> Date
     requires { IsWrittenDay day }
     ensures year { IsWrittenYear result.year }
@@ -80,7 +87,7 @@ fn date_of_day(day: i64) -> Date
         .unwrap()
 }
 
-/// The civil time with that count, where it lies in the years 1582 to 9999.
+// The civil time with that count, where it lies in the years 1582 to 9999.
 pub(crate) fn civil_of(count: i128) -> Option<Civil>
     ensures { MatchOption result (¬ IsInYears count) (λ c. IsCivil c × (civil_count c ≡ count)) }
 {
@@ -90,7 +97,7 @@ pub(crate) fn civil_of(count: i128) -> Option<Civil>
     }
     let date = date_of_day(day as i64);
     let units = count.rem_euclid(DAY) as u64;
-    let seconds = units / 10_000_000;
+    let seconds = units / SECOND;
     Some(Civil {
         year: date.year(),
         month: date.month() as u8,
@@ -98,11 +105,11 @@ pub(crate) fn civil_of(count: i128) -> Option<Civil>
         hour: (seconds / 3600) as u8,
         minute: (seconds / 60 % 60) as u8,
         second: (seconds % 60) as u8,
-        units: (units % 10_000_000) as u32,
+        units: (units % SECOND) as u32,
     })
 }
 
-/// Whether it is a date of the years 1582 to 9999 and a time of day.
+// Whether it is a date of the years 1582 to 9999 and a time of day.
 pub(crate) fn is_civil(c: Civil) -> bool
     ensures { IsTrue result ↔ IsCivil c }
 {
@@ -113,11 +120,11 @@ pub(crate) fn is_civil(c: Civil) -> bool
         && c.units < 10_000_000
 }
 
-/// Whether it is a date of the years 1582 to 9999.
+// Whether it is a date of the years 1582 to 9999.
 fn is_date(year: i16, month: u8, day: u8) -> bool
     ensures { IsTrue result ↔ (IsWrittenYear year × IsInRange 1 12 month × IsInRange 1 (days_in_month year month) day) }
 {
-    if year < 1582 || 9999 < year || month < 1 || 12 < month {
+    if year < FIRST_YEAR as i16 || (LAST_YEAR as i16) < year || month < 1 || 12 < month {
         return false;
     }
     1 <= day && day <= month_days(year as u16, month)

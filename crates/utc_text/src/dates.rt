@@ -11,10 +11,10 @@ use crate::calendar::{Civil, civil_of, count_of, is_civil};
 use crate::fault::{CivilFault, PrintFault};
 use utc_value::{Kind, MAX_TDF, Utc, ValueFault};
 
-/// Units of 100 ns in a minute.
+// Units of 100 ns in a minute.
 const MINUTE: i128 = 600_000_000;
 
-/// The count in UTC of a civil time that is `tdf` minutes ahead of UTC.
+// The count in UTC of a civil time that is `tdf` minutes ahead of UTC.
 pub(crate) fn count_in_utc(c: Civil, tdf: i16) -> i64
     requires { IsCivil c }
     ensures { result ≡ utc_count c tdf }
@@ -22,7 +22,7 @@ pub(crate) fn count_in_utc(c: Civil, tdf: i16) -> i64
     (count_of(c) - i128::from(tdf) * MINUTE) as i64
 }
 
-/// The count that clocks show which are `tdf` minutes ahead of UTC.
+// The count that clocks show which are `tdf` minutes ahead of UTC.
 fn count_at(time: i64, tdf: i16) -> i128
     ensures { result ≡ local_count time tdf }
 {
@@ -50,14 +50,14 @@ pub fn civil(u: Utc, tdf: i16) -> Result<Civil, PrintFault>
     }
 }
 
-/// Whether a time differential factor is less than a day either way.
+// Whether a time differential factor is less than a day either way.
 fn is_tdf(tdf: i16) -> bool
     ensures { IsTrue result ↔ IsTdf tdf }
 {
     -MAX_TDF <= tdf && tdf <= MAX_TDF
 }
 
-/// The civil time of a count in UTC.
+// The civil time of a count in UTC.
 fn civil_at(time: i64, tdf: i16) -> Result<Civil, PrintFault>
     ensures value { IfOk result (λ c. IsTdf tdf × IsCivil c × (civil_count c ≡ local_count time tdf)) }
     ensures err { IfErr result (λ fault. ((fault ≡ PrintFault.TdfRange) × (¬ IsTdf tdf)) ⊎ ((fault ≡ PrintFault.YearRange) × IsTdf tdf × (¬ IsInYears (local_count time tdf)))) }

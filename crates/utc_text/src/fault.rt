@@ -3,7 +3,7 @@
 use thiserror::Error;
 
 /// A field of a text of a time, in the order in which they stand. A separator belongs to the field
-/// behind it. Our own choice, after C310's texts.
+/// behind it.
 #[derive(Clone, Copy, Debug, PartialEq, Eq)]
 pub enum TextField {
     /// The sign of a relative time.

@@ -1,23 +1,25 @@
 //! Reads texts of times, field by field.
 
-ghost use Rattle.std.specs.Prelude.{◌≡◌, ◌≤◌, ◌<◌, ◌^◌, ◌+◌, ◌-◌, ◌*◌, if◌then◌else◌, Ok, pos, neg_ℤ, ◌≤ℤ◌, FitsSigned, IfOk, IfErr, IfSome};
+ghost use Rattle.std.specs.Prelude.{◌≡◌, ◌≤◌, ◌<◌, ◌^◌, ◌+◌, ◌-◌, ◌*◌, if◌then◌else◌, ◌↔◌, Ok, Err, pos, neg_ℤ, ◌≤ℤ◌, FitsSigned, IfOk, IfErr, IfSome};
 ghost use Rattle.std.specs.Int.{w64, IsInRange};
 ghost use Rattle.jiff_core.specs.Calendar.{days_in_month};
-ghost use Rattle.utc_value.specs.Stamp.{IsTdf, IsInaccuracy};
+ghost use Rattle.utc_value.specs.Stamp.{Stamp, IsTdf, IsInaccuracy};
 ghost use Rattle.utc_text.specs.Civil.{clock_units, IsCivil, IsWrittenYear};
+ghost use Rattle.utc_text.specs.declared.fields.TheConstants.{MAX_DAYS};
 ghost use Rattle.utc_text.specs.Fields.{GivesField};
-ghost use Rattle.utc_text.specs.FirstWrong.{IsAbsoluteFault, IsRelativeFault};
-ghost use Rattle.utc_text.specs.Spelling.{AbsoluteFields, IsAbsolute, absolute_text, absolute_said, RelativeFields, IsRelative, relative_text, relative_said};
-ghost use Rattle.utc_text.specs.Texts.{absolute_of, relative_of, moment_stamp, length_stamp};
-ghost use Rattle.utc_text.specs.Reading.{GivesText, signed, fits_time, Clock as ClockText, YearMonthDay, Moment as MomentText, Length as LengthText, fault_at, right_at, date_of, clock_of, tdf_minute_of, tdf_of, end_of, moment_of, sign_at, time_of, length_of};
+ghost use Rattle.utc_text.specs.FirstWrong.{IsAbsoluteFault, IsRelativeFault, fault_at};
+ghost use Rattle.utc_text.specs.Grammar.{signed, YearMonthDay};
+ghost use Rattle.utc_text.specs.Texts.{SpellsAbsolute, SpellsRelative};
+ghost use Rattle.utc_text.specs.Reading.{absolute_of, relative_of, GivesText, fits_time, Clock as ClockText, Moment as MomentText, Length as LengthText, right_at, date_of, clock_of, tdf_minute_of, tdf_of, end_of, moment_of, sign_at, time_of, length_of};
 
 use crate::calendar::{Civil, month_days};
 use crate::dates::count_in_utc;
 use crate::fault::{TextFault, TextField};
 use crate::fields;
+use crate::units::{DAY, SECOND};
 use utc_value::Utc;
 
-/// A date of the years 1582 to 9999.
+// A date of the years 1582 to 9999.
 #[derive(Clone, Copy)]
 struct YearMonthDay {
     year: u16,
@@ -25,7 +27,7 @@ struct YearMonthDay {
     day: u8,
 }
 
-/// A time of day.
+// A time of day.
 #[derive(Clone, Copy)]
 struct Clock {
     hour: u8,
@@ -34,8 +36,8 @@ struct Clock {
     units: u32,
 }
 
-/// The fault of a field that is not right where `left` is left of the text.
-#[tactic(auto, unfolding(crate::specs::Reading::fault_at))]
+// The fault of a field that is not right where `left` is left of the text.
+#[tactic(auto, unfolding(crate::specs::FirstWrong::fault_at))]
 fn fault(text: &[u8], field: TextField, left: &[u8]) -> TextFault
     ensures { result ≡ fault_at text.now field left.now }
 {
@@ -63,7 +65,7 @@ fn read_clock<'a>(text: &[u8], left: &'a [u8]) -> Result<(Clock, &'a [u8]), Text
     ensures hour { IfOk result (λ x. x.0.hour < 24) }
     ensures minute { IfOk result (λ x. x.0.minute < 60) }
     ensures second { IfOk result (λ x. x.0.second < 60) }
-    ensures units { IfOk result (λ x. x.0.units < 10 ^ 7) }
+    ensures units { IfOk result (λ x. x.0.units < SECOND) }
 {
     let (hour, left) = fields::part(left, b'-', 0, 23).ok_or(fault(text, TextField::Hour, left))?;
     let (minute, left) = fields::part(left, b':', 0, 59).ok_or(fault(
@@ -88,7 +90,7 @@ fn read_clock<'a>(text: &[u8], left: &'a [u8]) -> Result<(Clock, &'a [u8]), Text
     ))
 }
 
-/// The minutes of a sign, hours and minutes.
+// The minutes of a sign, hours and minutes.
 fn signed_minutes(west: bool, hours: u8, minutes: u8) -> i16
     requires hours { hours ≤ 23 }
     requires minutes { minutes ≤ 59 }
@@ -99,7 +101,7 @@ fn signed_minutes(west: bool, hours: u8, minutes: u8) -> i16
     if west { -minutes } else { minutes }
 }
 
-/// The minutes of a time differential factor, behind its sign and hours where those stand there.
+// The minutes of a time differential factor, behind its sign and hours where those stand there.
 #[tactic(auto, unfolding(crate::specs::Reading::tdf_minute_of, crate::specs::Reading::right_at))]
 fn read_tdf_minute<'a>(
     text: &[u8],
@@ -130,7 +132,7 @@ fn read_tdf<'a>(text: &[u8], left: &'a [u8]) -> Result<(i16, &'a [u8]), TextFaul
     read_tdf_minute(text, left, hour)
 }
 
-/// The inaccuracy, which ends a text.
+// The inaccuracy, which ends a text.
 #[tactic(auto, unfolding(crate::specs::Reading::end_of, crate::specs::Reading::right_at))]
 fn read_end(text: &[u8], left: &[u8]) -> Result<Option<u64>, TextFault>
     ensures value { GivesText (λ x. x) result (end_of text.now left.now) }
@@ -147,7 +149,7 @@ fn read_end(text: &[u8], left: &[u8]) -> Result<Option<u64>, TextFault>
     Ok(inaccuracy)
 }
 
-/// What an absolute text says.
+// What an absolute text says.
 #[derive(Clone, Copy)]
 struct Moment {
     civil: Civil,
@@ -182,7 +184,7 @@ fn read_moment(text: &[u8]) -> Result<Moment, TextFault>
     })
 }
 
-/// Whether a `-` stands there, and what is left behind it.
+// Whether a `-` stands there, and what is left behind it.
 #[tactic(auto, unfolding(crate::specs::Reading::sign_at))]
 fn read_sign(left: &[u8]) -> (bool, &[u8])
     ensures { (result.0, result.1.now) ≡ sign_at left.now }
@@ -193,21 +195,21 @@ fn read_sign(left: &[u8]) -> (bool, &[u8])
     }
 }
 
-/// The units of 100 ns in days and a time of day.
+// The units of 100 ns in days and a time of day.
 fn units_of(days: u32, clock: Clock) -> u64
-    requires days { days ≤ 10_675_199 }
+    requires days { days ≤ MAX_DAYS }
     requires hour { clock.hour < 24 }
     requires minute { clock.minute < 60 }
     requires second { clock.second < 60 }
-    requires units { clock.units < 10 ^ 7 }
-    ensures { result ≡ days * 864_000_000_000 + clock_units clock.hour clock.minute clock.second clock.units }
+    requires units { clock.units < SECOND }
+    ensures { result ≡ days * DAY + clock_units clock.hour clock.minute clock.second clock.units }
 {
     let minutes = u64::from(clock.hour) * 60 + u64::from(clock.minute);
     let seconds = minutes * 60 + u64::from(clock.second);
-    u64::from(days) * 864_000_000_000 + (seconds * 10_000_000 + u64::from(clock.units))
+    u64::from(days) * DAY + (seconds * SECOND + u64::from(clock.units))
 }
 
-/// That many units with a sign, where they fit the time of a timestamp.
+// That many units with a sign, where they fit the time of a timestamp.
 fn signed_time(negative: bool, units: u64) -> Option<i64>
     ensures { GivesField (λ x. x) result (if fits_time negative units then Some (signed negative units) else None) }
 {
@@ -215,7 +217,7 @@ fn signed_time(negative: bool, units: u64) -> Option<i64>
     i64::try_from(if negative { -units } else { units }).ok()
 }
 
-/// The time of a relative text, from its days to its fraction, where `left` begins with the days.
+// The time of a relative text, from its days to its fraction, where `left` begins with the days.
 #[tactic(auto, unfolding(crate::specs::Reading::time_of, crate::specs::Reading::right_at))]
 fn read_time<'a>(text: &[u8], negative: bool, left: &'a [u8]) -> Result<(i64, &'a [u8]), TextFault>
     ensures { GivesText (λ x. (x.0, x.1.now)) result (time_of text.now negative left.now) }
@@ -227,7 +229,7 @@ fn read_time<'a>(text: &[u8], negative: bool, left: &'a [u8]) -> Result<(i64, &'
     Ok((time, left))
 }
 
-/// What a relative text says.
+// What a relative text says.
 #[derive(Clone, Copy)]
 struct Length {
     time: i64,
@@ -245,22 +247,19 @@ fn read_length(text: &[u8]) -> Result<Length, TextFault>
     Ok(Length { time, inaccuracy })
 }
 
-/// Reads the text of an absolute time, as `1970-01-01-00:00:00.0000000+00:00I0.0000000` (C310). It
-/// takes no memory. The fault names the first field that is not right.
+/// Reads the text of an absolute time, as `1970-01-01-00:00:00.0000000+00:00I0.0000000`. It takes
+/// no memory. The fault names the first field that is not right.
 ///
 /// The civil time is local: the time is its count minus the time differential factor. Without that
 /// factor it is 0, and without an inaccuracy that is unspecified.
 pub fn parse_abs(text: &[u8]) -> Result<Utc, TextFault>
-    ensures exact { result ≡ absolute_of text.now }
-    ensures found { IfOk result (λ u. (f : AbsoluteFields) × IsAbsolute f × (text.now ≡ absolute_text f) × (u ≡ moment_stamp (absolute_said f))) }
-    ensures only { (f : AbsoluteFields) → IsAbsolute f → text.now ≡ absolute_text f → result ≡ Ok (moment_stamp (absolute_said f)) }
-    ensures first_wrong { IfErr result (λ fault. IsAbsoluteFault text.now fault) }
-    ensures only_wrong { (fault : TextFault) → IsAbsoluteFault text.now fault → result ≡ Err fault }
+    ensures spelled { (u : Stamp) → (result ≡ Ok u) ↔ SpellsAbsolute text.now u }
+    ensures first_wrong { (fault : TextFault) → (result ≡ Err fault) ↔ IsAbsoluteFault text.now fault }
 {
     read_absolute(text)
 }
 
-#[tactic(auto, unfolding(crate::specs::Texts::absolute_of))]
+#[tactic(auto, unfolding(crate::specs::Reading::absolute_of))]
 fn read_absolute(text: &[u8]) -> Result<Utc, TextFault>
     ensures { result ≡ absolute_of text.now }
 {
@@ -269,20 +268,17 @@ fn read_absolute(text: &[u8]) -> Result<Utc, TextFault>
     Ok(Utc::absolute(time, moment.inaccuracy, moment.tdf).unwrap())
 }
 
-/// Reads the text of a relative time, as `-00-00:00:01.0000000I-----` (C310). It takes no memory.
+/// Reads the text of a relative time, as `-00-00:00:01.0000000I-----`. It takes no memory.
 /// The fault names the first field that is not right, and Days where the time needs more than 64
 /// bits with its sign.
 pub fn parse_rel(text: &[u8]) -> Result<Utc, TextFault>
-    ensures exact { result ≡ relative_of text.now }
-    ensures found { IfOk result (λ u. (f : RelativeFields) × IsRelative f × (text.now ≡ relative_text f) × (u ≡ length_stamp (relative_said f))) }
-    ensures only { (f : RelativeFields) → IsRelative f → text.now ≡ relative_text f → result ≡ Ok (length_stamp (relative_said f)) }
-    ensures first_wrong { IfErr result (λ fault. IsRelativeFault text.now fault) }
-    ensures only_wrong { (fault : TextFault) → IsRelativeFault text.now fault → result ≡ Err fault }
+    ensures spelled { (u : Stamp) → (result ≡ Ok u) ↔ SpellsRelative text.now u }
+    ensures first_wrong { (fault : TextFault) → (result ≡ Err fault) ↔ IsRelativeFault text.now fault }
 {
     read_relative(text)
 }
 
-#[tactic(auto, unfolding(crate::specs::Texts::relative_of))]
+#[tactic(auto, unfolding(crate::specs::Reading::relative_of))]
 fn read_relative(text: &[u8]) -> Result<Utc, TextFault>
     ensures { result ≡ relative_of text.now }
 {

@@ -4,17 +4,17 @@ use utc_value::Utc;
 
 const EPOCH: i64 = 122_192_928_000_000_000;
 
-/// The first midnight of 1582, in UTC.
+// The first midnight of 1582, in UTC.
 const FIRST: i64 = -247_968_000_000_000;
 
-/// The last unit of 9999, in UTC.
+// The last unit of 9999, in UTC.
 const LAST: i64 = 2_656_215_935_999_999_999;
 
 fn fault(field: TextField, offset: u32) -> TextFault {
     TextFault { field, offset }
 }
 
-/// The first moment of a date.
+// The first moment of a date.
 fn at(year: i16, month: u8, day: u8) -> Civil {
     Civil {
         year,
@@ -311,5 +311,16 @@ fn civil_times_are_those_of_the_calendar(rt: HostRuntime) -> Result<(), Fail> {
 fn faults_say_what_is_wrong(rt: HostRuntime) -> Result<(), Fail> {
     let text = format!(in rt.alloc(); "{}", PrintFault::YearRange)?;
     assert_eq!(rt; text.as_str(), "a year outside 1582 to 9999");
+    Ok(())
+}
+
+#[test]
+fn the_laws_have_no_effect() -> Result<(), Fail> {
+    every_printable_moment_has_a_text(Utc::absolute(EPOCH, None, 0)?, 60);
+    every_length_has_a_text();
+    one_time_of_a_text();
+    a_moment_or_one_fault();
+    a_length_or_one_fault();
+    one_text_of_a_time();
     Ok(())
 }

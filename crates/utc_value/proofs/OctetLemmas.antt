@@ -105,6 +105,9 @@ IsTdf-of : (k : Kind) (t : ℤ) → IsTdfOf k t → IsTdf t
 IsTdf-of Absolute t h = h
 IsTdf-of Relative t h = rw h (omega (arith, ints), omega (arith, ints))
 
+pub factor_bits : (k : Kind) (t : ℤ) → IsTdfOf k t → twos_complement 12 t < 2 ^ 12
+factor_bits k t h = (twelve_bits t (IsTdf-of k t h)).0
+
 -- a kind is known by its version
 same_kind : (k l : Kind) → version_of k ≡ version_of l → k ≡ l
 same_kind Absolute Absolute e = refl

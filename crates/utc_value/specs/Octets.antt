@@ -1,6 +1,9 @@
--- The sixteen octets of a timestamp (C310, the binary form of its utc structure). A list of octets is a list of numbers below 256.
+-- The sixteen octets of a timestamp. A list of octets is a list of numbers below 256.
 use Rattle.std.specs.Prelude.{◌≡◌, ℕ, suc, ◌+◌, ◌-◌, ◌*◌, ◌/◌, ◌%◌, ◌^◌, ◌⊎◌, ℤ, pos, negsuc, ◌-ℤ◌, nat_lt, if◌then◌else◌, List, ◌++◌, drop, unwrap_or}
 use Rattle.byteorder.specs.Endian.{little_bytes, little_number}
+use Rattle.utc_value.specs.declared.TheConstants.{UNSPECIFIED}
+use Rattle.utc_value.specs.declared.BytesFault.{BytesFault}
+use Rattle.utc_value.specs.declared.BytesFault.TheVariants.{Version, Tdf}
 use Rattle.utc_value.specs.declared.Kind.{Kind}
 use Rattle.utc_value.specs.declared.Kind.TheVariants.{Absolute, Relative}
 use Rattle.utc_value.specs.Stamp.{Stamp, IsTdf}
@@ -14,7 +17,7 @@ twos_complement k (negsuc n) = 2 ^ k - suc n
 abbrev pub signed_of : ℕ → ℕ → ℤ
 signed_of k n = if nat_lt n (2 ^ (k - 1)) then pos n else pos n -ℤ pos (2 ^ k)
 
--- version 1 is an absolute timestamp, and version 2, our own choice, a relative one
+-- version 1 is an absolute timestamp, and version 2 a relative one
 abbrev pub version_of : Kind → ℕ
 version_of Absolute = 1
 version_of Relative = 2
@@ -27,11 +30,12 @@ IsVersion version = (version ≡ 1) ⊎ (version ≡ 2)
 abbrev pub IsTdfOfVersion : ℕ → ℤ → Type 0
 IsTdfOfVersion version t = IsTdf t × (version ≡ 2 → t ≡ pos 0)
 
--- the layout: eight octets of time, six of inaccuracy with all ones for unspecified, and two whose low 12 bits are the time differential factor and whose high 4 bits the version. Each field has its least octet first
+-- the layout: eight octets of time, six of inaccuracy with all ones for unspecified, and two whose low 12 bits are the time differential
+-- factor and whose high 4 bits the version; each field has its least octet first
 unfoldable pub octets_of : Stamp → List ℕ
 octets_of s =
     little_bytes 8 (twos_complement 64 s.time)
-    ++ little_bytes 6 (unwrap_or s.inaccuracy (2 ^ 48 - 1))
+    ++ little_bytes 6 (unwrap_or s.inaccuracy UNSPECIFIED)
     ++ little_bytes 2 (version_of s.kind * 2 ^ 12 + twos_complement 12 s.tdf)
 
 -- the number that the last two octets are
@@ -45,3 +49,8 @@ version_in octets = last_field octets / 2 ^ 12
 -- the time differential factor that the octets give
 abbrev pub tdf_in : List ℕ → ℤ
 tdf_in octets = signed_of 12 (last_field octets % 2 ^ 12)
+
+-- why sixteen octets are no timestamp: first the version, then the time differential factor
+abbrev pub RefusesOctets : List ℕ → BytesFault → Type 0
+RefusesOctets octets (Version found) = (found ≡ version_in octets) × (¬ IsVersion found)
+RefusesOctets octets (Tdf found) = (found ≡ tdf_in octets) × IsVersion (version_in octets) × (¬ IsTdfOfVersion (version_in octets) found)

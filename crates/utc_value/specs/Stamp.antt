@@ -1,10 +1,12 @@
 -- A timestamp as its four parts, and their ranges. Times are counted in units of 100 ns.
-use Rattle.std.specs.Prelude.{◌≡◌, ℕ, ◌-◌, ◌^◌, ◌≤◌, ℤ, pos, neg_ℤ, ◌≤ℤ◌, FitsSigned, Option, Some, None}
+use Rattle.std.specs.Prelude.{◌≡◌, ℕ, ◌≤◌, ℤ, pos, neg_ℤ, ◌≤ℤ◌, FitsSigned, Option, Some, None}
 use Rattle.std.specs.Int.{w64}
+use Rattle.utc_value.specs.declared.TheConstants.{MAX_INACCURACY, MAX_TDF}
 use Rattle.utc_value.specs.declared.Kind.{Kind}
 use Rattle.utc_value.specs.declared.Kind.TheVariants.{Absolute, Relative}
 
--- a timestamp (C310, its utc structure): the time, how far it may be wrong on either side (None: unspecified), the time differential factor in minutes, and whether it is a moment or a length of time
+-- a timestamp: the time, how far it may be wrong on either side (None: unspecified), the time differential factor in minutes, and
+-- whether it is a moment or a length of time
 pub record Stamp : Type 0 where
   pub time : ℤ
   pub inaccuracy : Option ℕ
@@ -14,11 +16,11 @@ pub record Stamp : Type 0 where
 -- an inaccuracy is unspecified, or at most 2^48 − 2: the 48 bits of all ones mean unspecified
 abbrev pub IsInaccuracy : Option ℕ → Type 0
 IsInaccuracy None = Unit {0}
-IsInaccuracy (Some i) = i ≤ 2 ^ 48 - 2
+IsInaccuracy (Some i) = i ≤ MAX_INACCURACY
 
 -- a time differential factor is less than a day either way
 abbrev pub IsTdf : ℤ → Type 0
-IsTdf t = (neg_ℤ (pos 1439) ≤ℤ t) × (t ≤ℤ pos 1439)
+IsTdf t = (neg_ℤ MAX_TDF ≤ℤ t) × (t ≤ℤ MAX_TDF)
 
 -- a relative timestamp has no time differential factor
 abbrev pub IsTdfOf : Kind → ℤ → Type 0

@@ -1,6 +1,8 @@
 //! A timestamp of 128 bits: a time with a stated inaccuracy, as DCE's time service has it (C310).
 //!
-//! Times are counted in units of 100 ns. An absolute time counts from 1582-10-15 00:00:00 UTC.
+//! Times are counted in units of 100 ns. An absolute time counts from 1582-10-15 00:00:00 UTC. Where the fields
+//! stand in the sixteen octets, what the versions mean and how large a time differential factor may be is our
+//! own choice, after C310.
 #![tactic(auto)]
 
 ghost use Rattle.std.specs.Prelude.{◌≡◌, ◌≢◌, ◌+◌, ◌-◌, ◌*◌, ◌%◌, ◌^◌, ◌<◌, ◌≤◌, ◌↔◌, ℕ, ℤ, drop, slice_index, ◌⊎◌, IfOk, IfErr, OkIff, IsTrue};
@@ -9,11 +11,15 @@ ghost use Rattle.std.specs.Option.{unwrap_or};
 ghost use Rattle.std.specs.Int.{w64, cast_unsigned};
 ghost use Rattle.byteorder.specs.Endian.{little_number};
 ghost use Rattle.utc_value.specs.Members.{earliest_of, latest_of};
-ghost use Rattle.utc_value.specs.Octets.{octets_of, version_of, version_in, tdf_in, twos_complement, signed_of, IsVersion, IsTdfOfVersion};
+ghost use Rattle.utc_value.specs.Octets.{octets_of, version_of, version_in, tdf_in, twos_complement, signed_of, IsVersion, IsTdfOfVersion, RefusesOctets};
 
 use byteorder::{ByteOrder, LittleEndian};
 use std::marker::Model;
 use thiserror::Error;
+
+mod laws;
+
+pub use laws::{members_are_from_the_earliest_to_the_latest, one_timestamp_of_octets};
 
 #[cfg(test)]
 mod tests;
@@ -24,7 +30,7 @@ pub const MAX_INACCURACY: u64 = 281_474_976_710_654;
 /// The greatest time differential factor, in minutes: a minute less than a day.
 pub const MAX_TDF: i16 = 1439;
 
-/// The 48 bits that stand for an unspecified inaccuracy: all ones (C310).
+// The 48 bits that stand for an unspecified inaccuracy: all ones.
 const UNSPECIFIED: u64 = 281_474_976_710_655;
 
 /// Whether a timestamp is a moment or a length of time.
@@ -186,7 +192,7 @@ impl Utc {
     }
 
     /// The sixteen octets: time, inaccuracy, and time differential factor with version, each with
-    /// its least octet first (C310).
+    /// its least octet first.
     #[tactic(auto, unfolding(crate::specs::Octets::octets_of))]
     pub fn to_bytes(self) -> [u8; 16]
         ensures octets { result ≡ octets_of self }
@@ -204,8 +210,16 @@ impl Utc {
     /// The version is looked at first: `Version` exactly where it is neither 1 (absolute) nor 2
     /// (relative), and else `Tdf` exactly where the time differential factor is a day or more, or
     /// not 0 in version 2.
-    #[tactic(auto, unfolding(crate::specs::Octets::octets_of))]
     pub fn from_bytes(octets: [u8; 16]) -> Result<Utc, BytesFault>
+        ensures spelled { (s : Stamp) → (result ≡ Ok s) ↔ (IsInRange s × (octets_of s ≡ octets)) }
+        ensures refused { (fault : BytesFault) → (result ≡ Err fault) ↔ RefusesOctets octets fault }
+    {
+        Self::read_octets(octets)
+    }
+
+    // Reads the fields of sixteen octets, the version before the time differential factor.
+    #[tactic(auto, unfolding(crate::specs::Octets::octets_of))]
+    fn read_octets(octets: [u8; 16]) -> Result<Utc, BytesFault>
         ensures ok { IfOk result (λ u. octets_of u ≡ octets) }
         ensures in_range { IfOk result IsInRange }
         ensures reads_back { (s : Stamp) → IsInRange s → octets_of s ≡ octets → result ≡ Ok s }
@@ -229,7 +243,7 @@ impl Utc {
     }
 }
 
-/// The three fields of sixteen octets.
+// The three fields of sixteen octets.
 #[derive(Drop)]
 struct Fields {
     time: i64,
@@ -237,7 +251,7 @@ struct Fields {
     last: u16,
 }
 
-/// Reads the fields, each with its least octet first.
+// Reads the fields, each with its least octet first.
 fn fields_of(octets: &[u8; 16]) -> Fields
     ensures time { cast_unsigned w64 result.time ≡ little_number 8 octets.now }
     ensures inaccuracy { result.inaccuracy ≡ little_number 6 (drop 8 octets.now) }
@@ -251,8 +265,8 @@ fn fields_of(octets: &[u8; 16]) -> Fields
     }
 }
 
-/// The last two octets as a number: the version in the high 4 bits, and below it the time
-/// differential factor in two's complement of 12 bits.
+// The last two octets as a number: the version in the high 4 bits, and below it the time
+// differential factor in two's complement of 12 bits.
 fn last_field(kind: Kind, tdf: i16) -> u16
     requires { IsTdfOf kind tdf }
     ensures value { result ≡ version_of kind * 2 ^ 12 + twos_complement 12 tdf }
@@ -264,7 +278,7 @@ fn last_field(kind: Kind, tdf: i16) -> u16
     (version << 12) + (tdf.cast_unsigned() & 0x0fff)
 }
 
-/// The kind whose version this is.
+// The kind whose version this is.
 fn kind_of_version(version: u8) -> Result<Kind, BytesFault>
     ensures ok { IfOk result (λ kind. version_of kind ≡ version) }
     ensures err { IfErr result (λ fault. (fault ≡ BytesFault.Version version) × (¬ IsVersion version)) }
@@ -276,7 +290,7 @@ fn kind_of_version(version: u8) -> Result<Kind, BytesFault>
     }
 }
 
-/// The signed number whose bits in two's complement are the low 12 of these.
+// The signed number whose bits in two's complement are the low 12 of these.
 fn low_12_signed(bits: u16) -> i16
     ensures { result ≡ signed_of 12 (bits % 2 ^ 12) }
 {
@@ -284,7 +298,7 @@ fn low_12_signed(bits: u16) -> i16
     if low < 0x0800 { low } else { low - 0x1000 }
 }
 
-/// Whether a timestamp of that kind may have the time differential factor.
+// Whether a timestamp of that kind may have the time differential factor.
 fn is_tdf_of(kind: Kind, tdf: i16) -> bool
     ensures { IsTrue result ↔ IsTdfOf kind tdf }
 {
@@ -294,11 +308,11 @@ fn is_tdf_of(kind: Kind, tdf: i16) -> bool
     }
 }
 
-/// The inaccuracy that the 48 bits stand for.
+// The inaccuracy that the 48 bits stand for.
 fn specified(bits: u64) -> Option<u64>
     requires { bits < 2 ^ 48 }
     ensures in_range { IsInaccuracy result }
-    ensures value { unwrap_or result (2 ^ 48 - 1) ≡ bits }
+    ensures value { unwrap_or result UNSPECIFIED ≡ bits }
 {
     if bits == UNSPECIFIED {
         None
@@ -307,7 +321,7 @@ fn specified(bits: u64) -> Option<u64>
     }
 }
 
-/// Whether an inaccuracy can be stated.
+// Whether an inaccuracy can be stated.
 fn is_inaccuracy(inaccuracy: Option<u64>) -> bool
     ensures { IsTrue result ↔ IsInaccuracy inaccuracy }
 {
@@ -317,7 +331,7 @@ fn is_inaccuracy(inaccuracy: Option<u64>) -> bool
     }
 }
 
-/// Whether a time differential factor is less than a day either way.
+// Whether a time differential factor is less than a day either way.
 fn is_tdf(tdf: i16) -> bool
     ensures { IsTrue result ↔ IsTdf tdf }
 {

@@ -97,3 +97,9 @@ fn faults_say_what_was_found(rt: HostRuntime) -> Result<(), std::test::Fail> {
     assert_eq!(rt; range.as_str(), "the inaccuracy is above 281474976710654");
     Ok(())
 }
+
+#[test]
+fn the_laws_have_no_effect() {
+    one_timestamp_of_octets();
+    members_are_from_the_earliest_to_the_latest();
+}

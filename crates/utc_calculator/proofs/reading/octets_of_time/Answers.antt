@@ -7,8 +7,8 @@ use Rattle.utc_calculator.proofs.reading.octets_of_time.Goals as goal
 pub returns-in_err-end-clause-err : goal.returns-in_err-end-clause-err
 returns-in_err-end-clause-err c =
     let p = err_from_is_err_and c.from_residual-in_err-end.result c.from_residual-in_err-end.ensures.1 in
-    rw (p.1, p.2) (inl (behind (Octets c.in_ok-octets.octets) [] c.args.fields c.octets.new.fields c.in_err-end.field-0.0 c.in_ok-octets.ensures.ok c.in_err-end.ensures.err))
+    rw (p.1, p.2) (inl (behind (Octets c.in_ok-octets.octets) [] c.args.fields.left c.octets.new.fields.left c.in_err-end.field-0.0 c.in_ok-octets.ensures.ok c.in_err-end.ensures.err))
 
 pub returns-clause-err : goal.returns-clause-err
 returns-clause-err c =
-    octets_refused c.in_ok-octets.octets c.args.fields c.from_bytes.result c.map_err.result _ (search rules) c.from_bytes.ensures.version c.from_bytes.ensures.tdf c.map_err.ensures.cases
+    octets_refused c.in_ok-octets.octets c.args.fields.left c.from_bytes.result c.map_err.result _ (search rules) c.from_bytes.ensures.refused c.map_err.ensures.cases

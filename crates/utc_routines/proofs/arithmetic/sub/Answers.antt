@@ -1,18 +1,20 @@
-use Rattle.std.proofs.Common.{rules, ◌≡◌, Some, FitsSigned, w16, ap, ◌∙◌}
-use Rattle.std.proofs.lemmas.Int.{to_z-of_z}
-use Rattle.utc_routines.specs.Arithmetic.{difference_kind, kept_tdf}
-use Rattle.utc_routines.proofs.LeastLemmas.{subtracts, kept_tdf_fits}
+use Rattle.utc_value.specs.Stamp.{Stamp, IsInRange}
+use Rattle.utc_routines.specs.Arithmetic.{Subtracts, RefusesDifference}
+use Rattle.utc_routines.proofs.OneResult.{one_difference}
+use Rattle.utc_routines.proofs.Refusals.{difference_apart, difference_fault}
+use Rattle.utc_routines.proofs.Exactly.{both, given_exactly, refused_exactly}
 use Rattle.utc_routines.proofs.arithmetic.sub.Goals as goal
 
-pub made-requires-clause-tdf : goal.made-requires-clause-tdf
-made-requires-clause-tdf c =
-    let fits : FitsSigned w16 c.kept_tdf.result = search rules in
-    let passed : FitsSigned w16 c.tdf.result = search rules in
-    let kinds : difference_kind c.args.a.kind c.args.b.kind ≡ Some c.in-Some.kind = search rules in
-    let kept : c.kept_tdf.result ≡ kept_tdf c.in-Some.kind c.args.a.tdf =
-    (simp to_z-of_z at c.kept_tdf.ensures) ∙ ap (kept_tdf c.in-Some.kind) c.tdf.ensures.value in
-    simp to_z-of_z (rw kept (kept_tdf_fits c.args.a.kind c.args.b.kind c.in-Some.kind c.args.a.tdf kinds c.tdf.ensures.in_range.tdf_fits))
+pub returns-clause-difference : goal.returns-clause-difference
+returns-clause-difference c =
+    given_exactly (λ (r : Stamp). Subtracts c.args.a c.args.b r × IsInRange r) (RefusesDifference c.args.a c.args.b)
+    (λ x fault h. difference_apart c.args.a c.args.b x fault h.0 h.1)
+    (λ x y h k. one_difference c.args.a c.args.b x y h.0 k.0) c.difference_of.result
+    (both _ _ _ c.difference_of.ensures.ok c.difference_of.ensures.in_range) c.difference_of.ensures.err
 
-pub returns-clause-ok : goal.returns-clause-ok
-returns-clause-ok c =
-    rw c.made.ensures (subtracts c.args.a c.args.b _ (search rules) (search rules) (search rules) (search rules))
+pub returns-clause-refused : goal.returns-clause-refused
+returns-clause-refused c =
+    refused_exactly (λ (r : Stamp). Subtracts c.args.a c.args.b r × IsInRange r) (RefusesDifference c.args.a c.args.b)
+    (λ x fault h. difference_apart c.args.a c.args.b x fault h.0 h.1)
+    (difference_fault c.args.a c.args.b) c.difference_of.result
+    (both _ _ _ c.difference_of.ensures.ok c.difference_of.ensures.in_range) c.difference_of.ensures.err

@@ -27,8 +27,9 @@ pub returns-clause-text : goal.returns-clause-text
 returns-clause-text c =
     let fits16 : FitsSigned w16 c.args.tdf = c.ranges.tdf in
     let value = simp to_z-of_z at c.in_ok-c.ensures.value in
+    let printable : IsPrintable c.args.u c.args.tdf = (simp to_z-of_z at c.in_ok-c.ensures.succeeds).0 refl in
     let text = simp (to_z-of_z, c.inaccuracy.ensures.value) at c.print_civil.ensures.text in
-    shown c.print_civil.result c.in_ok-c.c c.args.u.time c.args.tdf c.args.u.inaccuracy value.0 value.1 text
+    shown c.print_civil.result c.in_ok-c.c c.args.u.time c.args.tdf c.args.u.inaccuracy value.0 printable.tdf_in c.inaccuracy.ensures.in_range.inaccuracy_fits value.1 text
 
 pub returns-clause-reads_back : goal.returns-clause-reads_back
 returns-clause-reads_back c =

@@ -1,5 +1,0 @@
-use Rattle.utc_calculator.proofs.OneCause.{one_cause}
-use Rattle.utc_calculator.proofs.answering.one_cause.Goals as goal
-
-pub returns : goal.returns
-returns c = one_cause
