@@ -1,5 +1,6 @@
-pub mod Print
-pub mod Numbers
-pub mod Cuts
-pub mod Lines
-pub mod Unique
+pub mod Adding
+pub mod KindLaws
+pub mod FormLaws
+pub mod Parsed
+pub mod FieldSteps
+pub mod TextLaws

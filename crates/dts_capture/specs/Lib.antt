@@ -1,3 +1,8 @@
-pub mod Fields
-pub mod Capture
+pub mod Kinds
+pub mod Grammar
+pub mod Spelling
 pub mod Log
+pub mod Writing
+pub mod Parsing
+pub mod Cursors
+pub mod Printing

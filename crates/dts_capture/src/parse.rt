@@ -1,60 +1,71 @@
-ghost use Rattle.std.specs.Prelude.{◌≡◌, ◌≢◌, List, ℕ, ◌∷◌, ◌++◌, MatchOption, IfOk, IfErr, IsTrue, ◌↔◌, codes};
+ghost use Rattle.std.specs.Prelude.{◌≡◌, ◌⊎◌, ℕ, Option, Result, Err, MatchResult, IfOk, IfErr, true, false};
+ghost use Rattle.dts_capture.specs.declared.event.Event.{Event};
 ghost use Rattle.dts_capture.specs.declared.line.Line.{Line};
 ghost use Rattle.dts_capture.specs.declared.line.LineFault.{LineFault};
-ghost use Rattle.dts_capture.specs.Capture.{IsBlank, Spells, line_fields, HasFields, first_fields, IsFirst};
-ghost use Rattle.dts_capture.specs.Fields.{fields_of};
-ghost use Rattle.dts_base.specs.declared.interval.Interval.{Interval};
-ghost use Rattle.std.specs.Prelude.{Option};
+ghost use Rattle.dts_capture.specs.Grammar.{Fault, Form, Field, number32, at_osc, octets_form, peer_form, served_form, read_form, ask_form, start_form, tick_form, query_form, source_form, adopt_form, at_form, serve_forms, direct_forms, peer_forms, line_forms};
+ghost use Rattle.dts_capture.specs.Spelling.{is_blank, Spells, IsWrongAt, IsFaultOf};
+ghost use Rattle.dts_capture.specs.Parsing.{Parses};
 
-use crate::fields::{Fields, count_of};
+use crate::cursor::Cursor;
+use crate::limits::{FIRST_CONNECTION, MAX_TAGS};
 use crate::{Event, Line, LineCause, LineFault};
-use dts_base::Interval;
+use dts_base::Bytes;
+use line_reader::MAX_LINE;
+use std::alloc::Global;
 
-/// The most octets of a line, without its line feed.
-const MAX_LENGTH: usize = 16_384;
-
-/// The greatest oscillator reading, in units of 100 ns.
-const MAX_OSC: u64 = 1 << 60;
-
-/// Reads a line of a capture, without its line feed. Our own choice.
+/// Reads a line of a capture, without its line feed.
 ///
-/// A line is empty, or a comment that begins with `#`, or its fields joined by single spaces:
-/// `start OSC VALUE LO HI`, `start OSC VALUE unknown` or `read OSC`, in decimal numbers without signs and
-/// without leading zeros. All numbers are in units of 100 ns: OSC is an oscillator reading of at most 2^60,
-/// VALUE, LO and HI are time counts of 0 to 2^61, and LO is at most HI. A line has at most 16,384 octets, a
-/// comment too. Any other line is refused with column 1 and the cause `Word`.
-pub fn parse_line(line: &[u8]) -> Result<Line, LineFault>
-    ensures found { IfOk result (Spells line.now) }
-    ensures only { IfErr result (λ fault. (l : Line) → Spells line.now l → ⊥) }
-    ensures fault { IfErr result (λ fault. fault ≡ record { column = 1; cause = LineCause.Word }) }
+/// A line is empty, or a comment that begins with `#`, or its fields joined by single spaces: `start OSC VALUE LO HI`,
+/// `start OSC VALUE unknown`, `tick OSC WORD`, `data OSC PEER HEX`, `gram OSC PEER HEX`, `lost OSC PEER`,
+/// `unsent OSC PEER`, `read OSC`, `ask OSC CONN HEX`, `query OSC TAG`, `source OSC TAG LO HI`,
+/// `adopt OSC REQUIRED`, or `at K` and a line of a serve capture: a `read`, an `ask`, or a `lost` or `unsent` of a peer
+/// from 1000. Numbers are in decimal without leading zeros, in units of 100 ns where they are times: OSC is at most
+/// 2^60, VALUE, LO and HI are 0 to 2^61 and LO is at most HI, PEER, CONN and TAG have 32 bits, CONN is at least 1000,
+/// REQUIRED is 1 to 64, K has 64 bits. WORD is 16 hex digits, HEX an even number of them, at least two, or `-` for an
+/// empty datagram. A line has at most 16,384 octets. Any other line is refused at its first wrong field.
+pub fn parse_line(alloc: Global, line: &[u8]) -> Result<Line, LineFault>
+    ensures found { IfOk result (Spells Option.None line.now) }
+    ensures first_wrong { IfErr result (IsFaultOf Option.None line.now) }
+
+    // Neither has another answer, but that memory is missing.
+    ensures only { (l : Line) → Spells Option.None line.now l → (result ≡ Ok l) ⊎ (result ≡ Err LineFault.NoMemory) }
+    ensures only_wrong { (fault : Fault) → IsWrongAt Option.None line.now fault → (result ≡ Err (LineFault.Wrong fault.column fault.why)) ⊎ (result ≡ Err LineFault.NoMemory) }
 {
-    line_of(line).ok_or(LineFault {
-        column: 1,
-        cause: LineCause::Word,
-    })
+    parse_for(alloc, None, line)
 }
 
-/// One text spells one line at most. It does nothing: its contract is the law.
-pub fn one_value()
-    ensures { (text : List ℕ) (l m : Line) → Spells text l → Spells text m → l ≡ m }
-{}
+/// Reads a line as [`parse_line`] does; `at K` has to name this record. So a replay reads lines, which has a current record.
+pub fn parse_line_at(alloc: Global, current: u64, line: &[u8]) -> Result<Line, LineFault>
+    ensures found { IfOk result (Spells (Option.Some current) line.now) }
+    ensures first_wrong { IfErr result (IsFaultOf (Option.Some current) line.now) }
 
-/// What a line spells, where it is right.
-fn line_of(line: &[u8]) -> Option<Line>
-    ensures { MatchOption result ((l : Line) → Spells line.now l → ⊥) (Spells line.now) }
+    // Neither has another answer, but that memory is missing.
+    ensures only { (l : Line) → Spells (Option.Some current) line.now l → (result ≡ Ok l) ⊎ (result ≡ Err LineFault.NoMemory) }
+    ensures only_wrong { (fault : Fault) → IsWrongAt (Option.Some current) line.now fault → (result ≡ Err (LineFault.Wrong fault.column fault.why)) ⊎ (result ≡ Err LineFault.NoMemory) }
 {
-    if line.len() > MAX_LENGTH {
-        return None;
+    parse_for(alloc, Some(current), line)
+}
+
+// Reads a line, where `at K` has to name this record if one is given.
+fn parse_for(alloc: Global, current: Option<u64>, line: &[u8]) -> Result<Line, LineFault>
+    ensures found { IfOk result (Spells current line.now) }
+    ensures first_wrong { IfErr result (IsFaultOf current line.now) }
+{
+    if line.len() > MAX_LINE {
+        return Err(LineFault::Wrong {
+            column: MAX_LINE as u32 + 1,
+            cause: LineCause::Long,
+        });
     }
     if is_blank(line) {
-        return Some(Line::Blank);
+        return Ok(Line::Blank);
     }
-    fielded(line)
+    any_line(alloc, current, &mut Cursor::new(line))
 }
 
 /// The line is empty or a comment.
-fn is_blank(line: &[u8]) -> bool
-    ensures { IsTrue result ↔ IsBlank line.now }
+pub fn is_blank(line: &[u8]) -> bool
+    ensures { result ≡ is_blank line.now }
 {
     match line {
         [] => true,
@@ -62,187 +73,233 @@ fn is_blank(line: &[u8]) -> bool
     }
 }
 
-/// What the fields of a line spell.
-fn fielded(line: &[u8]) -> Option<Line>
-    ensures { MatchOption result ((l : Line) → HasFields l → fields_of line.now ≢ line_fields l) (λ l. (fields_of line.now ≡ line_fields l) × HasFields l) }
+// Reads a line that is not blank.
+fn any_line(alloc: Global, current: Option<u64>, line: &mut Cursor) -> Result<Line, LineFault>
+    ensures { Parses (line_forms current) line.old result }
 {
-    let mut fields = Fields::new(line);
-    let word = fields.next()?;
-    let line = after_word(word, &mut fields)?;
-    match fields.next() {
-        None => Some(line),
-        Some(_) => None,
+    if line.takes("start")? {
+        return start(line);
     }
+    if line.takes("tick")? {
+        return tick(line);
+    }
+    if line.takes("read")? {
+        return read(line, None);
+    }
+    if line.takes("ask")? {
+        return ask(alloc, line, None);
+    }
+    of_peer(alloc, current, line)
 }
 
-/// Takes what follows the first word.
-fn after_word(word: &[u8], fields: &mut Fields) -> Option<Line>
-    ensures { MatchOption result ((l : Line) (more : List (List ℕ)) → HasFields l → word.now ∷ fields.old ≢ line_fields l ++ more) (λ l. (word.now ∷ fields.old ≡ line_fields l ++ fields.new) × HasFields l) }
+// Reads a line on what came of a peer, or another.
+fn of_peer(alloc: Global, current: Option<u64>, line: &mut Cursor) -> Result<Line, LineFault>
+    ensures { Parses (peer_forms current) line.old result }
 {
-    if word == b"start".as_slice() {
-        start(fields)
-    } else if word == b"read".as_slice() {
-        read(fields)
-    } else {
-        None
+    if line.takes("data")? {
+        return stream(alloc, line);
     }
+    if line.takes("gram")? {
+        return gram(alloc, line);
+    }
+    if line.takes("lost")? {
+        return lost(line);
+    }
+    if line.takes("unsent")? {
+        return unsent(line);
+    }
+    direct(alloc, current, line)
 }
 
-/// Takes what follows the word `start`.
-fn start(fields: &mut Fields) -> Option<Line>
-    ensures { MatchOption result ((l : Line) (more : List (List ℕ)) → HasFields l → codes "start" ∷ fields.old ≢ line_fields l ++ more) (λ l. (codes "start" ∷ fields.old ≡ line_fields l ++ fields.new) × HasFields l) }
+// Reads a line of a direct round, or one of a serve capture.
+fn direct(alloc: Global, current: Option<u64>, line: &mut Cursor) -> Result<Line, LineFault>
+    ensures { Parses (direct_forms current) line.old result }
 {
-    let osc = fields.number(MAX_OSC)?;
-    let value = fields.count()?;
-    let first = first(fields)?;
-    Some(Line::Start { osc, value, first })
+    if line.takes("query")? {
+        return query(line);
+    }
+    if line.takes("source")? {
+        return source(line);
+    }
+    if line.takes("adopt")? {
+        return adopt(line);
+    }
+    if line.takes("at")? {
+        return at(alloc, current, line);
+    }
+    Err(line.no_word(LineCause::Word, LineCause::Word))
 }
 
-/// Takes the ends of the first interval, or the word that there is none.
-fn first(fields: &mut Fields) -> Option<Option<Interval>>
-    ensures { MatchOption result ((f : Option Interval) (more : List (List ℕ)) → IsFirst f → fields.old ≢ first_fields f ++ more) (λ f. (fields.old ≡ first_fields f ++ fields.new) × IsFirst f) }
+// Reads what follows `at`.
+fn at(alloc: Global, current: Option<u64>, line: &mut Cursor) -> Result<Line, LineFault>
+    ensures { Parses (at_form current) line.old result }
 {
-    let field = fields.next()?;
-    if field == b"unknown".as_slice() {
-        return Some(None);
-    }
-    let lo = count_of(field)?;
-    let hi = fields.count()?;
-    if lo <= hi {
-        Some(Some(Interval { lo, hi }))
-    } else {
-        None
-    }
+    let number = line.record_number(current)?;
+    line.mark_word();
+    serve_line(alloc, number, line)
 }
 
-/// Takes what follows the word `read`.
-fn read(fields: &mut Fields) -> Option<Line>
-    ensures { MatchOption result ((l : Line) (more : List (List ℕ)) → HasFields l → codes "read" ∷ fields.old ≢ line_fields l ++ more) (λ l. (codes "read" ∷ fields.old ≡ line_fields l ++ fields.new) × HasFields l) }
+// Reads a line of a serve capture, behind the number of its record.
+fn serve_line(alloc: Global, number: u64, line: &mut Cursor) -> Result<Line, LineFault>
+    ensures { Parses (serve_forms (Option.Some number)) line.old result }
 {
-    let osc = fields.number(MAX_OSC)?;
-    Some(Line::Event {
+    if line.takes("read")? {
+        return read(line, Some(number));
+    }
+    if line.takes("ask")? {
+        return ask(alloc, line, Some(number));
+    }
+    if line.takes("lost")? {
+        return served_lost(line, Some(number));
+    }
+    if line.takes("unsent")? {
+        return served_unsent(line, Some(number));
+    }
+    Err(line.no_word(LineCause::Missing, LineCause::At))
+}
+
+fn start(line: &mut Cursor) -> Result<Line, LineFault>
+    ensures { Parses start_form line.old result }
+{
+    let osc = line.osc()?;
+    let value = line.count()?;
+    let first = line.first()?;
+    line.says(Line::Start { osc, value, first })
+}
+
+fn tick(line: &mut Cursor) -> Result<Line, LineFault>
+    ensures { Parses tick_form line.old result }
+{
+    let osc = line.osc()?;
+    let word = line.word()?;
+    line.says(Line::Event {
         at: None,
+        event: Event::Tick { osc, word },
+    })
+}
+
+fn read(line: &mut Cursor, at: Option<u64>) -> Result<Line, LineFault>
+    ensures { Parses (read_form at) line.old result }
+{
+    let osc = line.osc()?;
+    line.says(Line::Event {
+        at,
         event: Event::Read { osc },
     })
 }
 
-#[cfg(test)]
-mod tests {
-    use super::*;
-    use std::test::Fail;
+fn ask(alloc: Global, line: &mut Cursor, at: Option<u64>) -> Result<Line, LineFault>
+    ensures { Parses (ask_form at) line.old result }
+{
+    let osc = line.osc()?;
+    let conn = line.number32(FIRST_CONNECTION)?;
+    let bytes = line.octets(alloc, false)?;
+    line.says(Line::Event {
+        at,
+        event: Event::Ask { osc, conn, bytes },
+    })
+}
 
-    fn reads(osc: u64) -> Line {
-        Line::Event {
-            at: None,
-            event: Event::Read { osc },
-        }
-    }
+fn stream(alloc: Global, line: &mut Cursor) -> Result<Line, LineFault>
+    ensures { Parses (octets_form 0 false Event.Stream Option.None) line.old result }
+{
+    let osc = line.osc()?;
+    let peer = line.number32(0)?;
+    let bytes = line.octets(alloc, false)?;
+    line.says(Line::Event {
+        at: None,
+        event: Event::Stream { osc, peer, bytes },
+    })
+}
 
-    #[test]
-    fn right_lines_are_read(rt: HostRuntime) -> Result<(), Fail> {
-        let known = Line::Start {
-            osc: 0,
-            value: 1_000_000,
-            first: Some(Interval {
-                lo: 999_000,
-                hi: 1_001_000,
-            }),
-        };
-        let unknown = Line::Start {
-            osc: 7,
-            value: 2_305_843_009_213_693_952,
-            first: None,
-        };
-        let lines: [(&str, Line); 10] = [
-            ("", Line::Blank),
-            ("#", Line::Blank),
-            ("# start \r\0\u{e9}", Line::Blank),
-            ("start 0 1000000 999000 1001000", known),
-            ("start 7 2305843009213693952 unknown", unknown),
-            ("read 0", reads(0)),
-            ("read 10", reads(10)),
-            ("read 10000000", reads(10_000_000)),
-            ("read 1152921504606846975", reads(1_152_921_504_606_846_975)),
-            ("read 1152921504606846976", reads(1_152_921_504_606_846_976)),
-        ];
-        for (text, line) in lines {
-            assert_eq!(rt; parse_line(text.as_bytes()), Ok(line), "{text}");
-        }
-        Ok(())
-    }
+fn gram(alloc: Global, line: &mut Cursor) -> Result<Line, LineFault>
+    ensures { Parses (octets_form 0 true Event.Gram Option.None) line.old result }
+{
+    let osc = line.osc()?;
+    let peer = line.number32(0)?;
+    let bytes = line.octets(alloc, true)?;
+    line.says(Line::Event {
+        at: None,
+        event: Event::Gram { osc, peer, bytes },
+    })
+}
 
-    #[test]
-    fn other_lines_are_refused_at_column_1(rt: HostRuntime) -> Result<(), Fail> {
-        let lines: [&str; 36] = [
-            " ",
-            " #",
-            "read",
-            "read ",
-            "reads 5",
-            "Read 5",
-            "read  5",
-            " read 5",
-            "read 5 ",
-            "read 5 6",
-            "read 5\r",
-            "read 5\n",
-            "read\t5",
-            "read 5\0",
-            "read \u{e9}",
-            "read 05",
-            "read 00",
-            "read +5",
-            "read -5",
-            "read -0",
-            "read 0x5",
-            "read 5 #",
-            "read 1152921504606846977",
-            "read 99999999999999999999999999999999999999",
-            "start",
-            "start 0 5",
-            "start 0 5 unknown x",
-            "start 0 5 unknown ",
-            "start 0 5 Unknown",
-            "start 0 unknown unknown",
-            "start 0 5 5",
-            "start 0 5 7 6",
-            "start 0 5 5 5 5",
-            "start 0 2305843009213693953 unknown",
-            "start 0 5 5 2305843009213693953",
-            "tick 0 0000000000000001",
-        ];
-        let refused = LineFault {
-            column: 1,
-            cause: LineCause::Word,
-        };
-        for text in lines {
-            assert_eq!(rt; parse_line(text.as_bytes()), Err(refused), "{text:?}");
-        }
-        assert_eq!(rt; parse_line(b"read \xff5"), Err(refused));
-        assert_eq!(rt;
-            refused.to_string(rt.alloc())?.as_str(),
-            "column 1: no such line"
-        );
-        Ok(())
-    }
+fn lost(line: &mut Cursor) -> Result<Line, LineFault>
+    ensures { Parses (peer_form Event.Lost) line.old result }
+{
+    let osc = line.osc()?;
+    let peer = line.number32(0)?;
+    line.says(Line::Event {
+        at: None,
+        event: Event::Lost { osc, peer },
+    })
+}
 
-    #[test]
-    fn a_line_has_at_most_16384_octets(rt: HostRuntime) -> Result<(), Fail> {
-        for (length, fits) in [(16_383, true), (16_384, true), (16_385, false)] {
-            let comment = vec![in rt.alloc(); b'#'; length]?;
-            assert_eq!(rt; parse_line(&comment).is_ok(), fits, "{length}");
-            let spaces = vec![in rt.alloc(); b' '; length]?;
-            assert!(rt; parse_line(&spaces).is_err(), "{length}");
-            let digits = vec![in rt.alloc(); b'9'; length]?;
-            let mut read = Vec::from_slice(rt.alloc(), b"read ")?;
-            read.extend_from_slice(&digits)?;
-            assert!(rt; parse_line(&read).is_err(), "{length}");
-        }
-        Ok(())
-    }
+fn unsent(line: &mut Cursor) -> Result<Line, LineFault>
+    ensures { Parses (peer_form Event.Unsent) line.old result }
+{
+    let osc = line.osc()?;
+    let peer = line.number32(0)?;
+    line.says(Line::Event {
+        at: None,
+        event: Event::Unsent { osc, peer },
+    })
+}
 
-    #[test]
-    fn the_law_has_no_effect() {
-        one_value();
-    }
+fn served_lost(line: &mut Cursor, at: Option<u64>) -> Result<Line, LineFault>
+    ensures { Parses (served_form Event.Lost at) line.old result }
+{
+    let osc = line.osc()?;
+    let peer = line.number32(0)?;
+    line.served(peer)?;
+    line.says(Line::Event {
+        at,
+        event: Event::Lost { osc, peer },
+    })
+}
+
+fn served_unsent(line: &mut Cursor, at: Option<u64>) -> Result<Line, LineFault>
+    ensures { Parses (served_form Event.Unsent at) line.old result }
+{
+    let osc = line.osc()?;
+    let peer = line.number32(0)?;
+    line.served(peer)?;
+    line.says(Line::Event {
+        at,
+        event: Event::Unsent { osc, peer },
+    })
+}
+
+fn query(line: &mut Cursor) -> Result<Line, LineFault>
+    ensures { Parses query_form line.old result }
+{
+    let osc = line.osc()?;
+    let tag = line.number32(0)?;
+    line.says(Line::Event {
+        at: None,
+        event: Event::Query { osc, tag },
+    })
+}
+
+fn source(line: &mut Cursor) -> Result<Line, LineFault>
+    ensures { Parses source_form line.old result }
+{
+    let osc = line.osc()?;
+    let tag = line.number32(0)?;
+    let interval = line.interval()?;
+    line.says(Line::Event {
+        at: None,
+        event: Event::Source { osc, tag, interval },
+    })
+}
+
+fn adopt(line: &mut Cursor) -> Result<Line, LineFault>
+    ensures { Parses adopt_form line.old result }
+{
+    let osc = line.osc()?;
+    let required = line.natural(1, u64::from(MAX_TAGS))? as u32;
+    line.says(Line::Event {
+        at: None,
+        event: Event::Adopt { osc, required },
+    })
 }

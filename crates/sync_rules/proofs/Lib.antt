@@ -1,3 +1,14 @@
+pub mod Positions
+pub mod Choices
+pub mod Changes
+pub mod Moments
+pub mod Standing
+pub mod Anchoring
+pub mod Given
 pub mod Readings
+pub mod Naming
 pub mod Safe
-pub mod PlainFacts
+pub mod Honest
+pub mod Exact
+pub mod Rows
+pub mod RoundRows

@@ -1,4 +1,8 @@
 pub mod History
+pub mod Live
+pub mod Rounds
 pub mod Rules
+pub mod Ranges
 pub mod World
 pub mod Safety
+pub mod Laws

@@ -1,17 +1,13 @@
--- Safe histories: readings contain true time, and go back only across a step that the log names. Our own choice.
-use Rattle.std.specs.Prelude.{◌≡◌, ℕ, ℤ, pos, ◌+◌, ◌<◌, ◌-ℤ◌, ◌+ℤ◌, ◌≤◌, ◌≤ℤ◌, ◌==◌, List, [], Contains, Option, Some, IfSome, if◌then◌else◌}
+-- Safe histories: readings contain true time, and go back only across a step that the log names.
+use Rattle.std.specs.Prelude.{◌≡◌, ℕ, ℤ, pos, ◌<◌, ◌-ℤ◌, ◌+ℤ◌, ◌≤◌, ◌≤ℤ◌, Contains, false, Option, IfSome}
 use Rattle.dts_capture.specs.declared.action.Action.{Action}
 use Rattle.dts_capture.specs.declared.action.Action.TheVariants as action
+use Rattle.dts_capture.specs.declared.action.FalseSource.TheVariants as source
 use Rattle.dts_capture.specs.declared.action.NoteKind.{NoteKind}
 use Rattle.dts_capture.specs.declared.action.NoteKind.TheVariants as note
-use Rattle.sync_rules.specs.History.{History, Begun, Then, Lane}
-use Rattle.sync_rules.specs.History.{last_position}
-use Rattle.sync_rules.specs.World.{World, IsHonest, mark_at}
-
--- the actions that a position gave
-abbrev pub actions_at : History → ℕ → List Action
-actions_at (Begun rates start) i = []
-actions_at (Then before event actions) i = if i == last_position before + 1 then actions else actions_at before i
+use Rattle.sync_rules.specs.History.{History, Begun, Then, Lane, part_of, given_at, IsPositionOf, ComesBefore}
+use Rattle.sync_rules.specs.Rounds.{Answer}
+use Rattle.sync_rules.specs.World.{World, IsHonest, is_right, adopts_from, time_at}
 
 -- what a reading says of the time
 pub record Shown : Type 0 where
@@ -19,47 +15,78 @@ pub record Shown : Type 0 where
   pub inaccuracy : Option ℕ
   pub step : ℕ
 
--- the note shows this reading
+-- the note is a reading, and shows this
 abbrev pub ShowsReading : NoteKind → Shown → Type 0
 ShowsReading (note.Reading value inaccuracy step number) shown = shown ≡ record { value = value; inaccuracy = inaccuracy; step = step }
-ShowsReading (note.Regressed floor) shown = ⊥
+ShowsReading _ shown = ⊥
 
 -- the action logs this reading
 abbrev pub LogsReading : Action → Shown → Type 0
-LogsReading (action.Publish rec) shown = ⊥
 LogsReading (action.Log n) shown = ShowsReading n.kind shown
+LogsReading _ shown = ⊥
 
 -- the position gave this reading
-abbrev pub Gives : History → ℕ → Shown → Type 0
-Gives history i shown = (a : Action) × Contains (actions_at history i) a × LogsReading a shown
+abbrev pub Gives : History → Shown → Type 0
+Gives position shown = (a : Action) × Contains (given_at position) a × LogsReading a shown
 
--- the action names a step to this number in the log; no action that there is yet names one
+-- the note is of a step to this number
+abbrev pub IsStepTo : NoteKind → ℕ → Type 0
+IsStepTo (note.Step to old new) step = to ≡ step
+IsStepTo _ step = ⊥
+
+-- the action names a step to this number in the log
 abbrev pub NamesStep : Action → ℕ → Type 0
-NamesStep (action.Publish rec) step = ⊥
-NamesStep (action.Log n) step = ⊥
+NamesStep (action.Log n) step = IsStepTo n.kind step
+NamesStep _ step = ⊥
 
--- the position names a step to this number in the log
-abbrev pub NamedAt : History → ℕ → ℕ → Type 0
-NamedAt history i step = (a : Action) × Contains (actions_at history i) a × NamesStep a step
+-- a position before this one names a step to this number in the log
+abbrev pub IsNamedBefore : History → ℕ → Type 0
+IsNamedBefore later step = (position : History) × ComesBefore position later × (a : Action) × Contains (given_at position) a × NamesStep a step
 
 -- both positions are of this lane
-pub record OfOneLane (history : History) (i j : ℕ) : Type 0 where
+pub record OfOneLane (earlier later : History) : Type 0 where
   pub lane : ℕ
-  pub earlier : (osc : ℕ) × (mark_at history i ≡ Some (record { part = Lane lane; osc = osc }))
-  pub later : (osc : ℕ) × (mark_at history j ≡ Some (record { part = Lane lane; osc = osc }))
+  pub first : part_of earlier ≡ Lane lane
+  pub second : part_of later ≡ Lane lane
 
 -- the reading is unspecified, or true time is within its inaccuracy of its value
 abbrev pub ContainsTime : Shown → ℤ → Type 0
 ContainsTime shown time = IfSome shown.inaccuracy (λ i. ((shown.value -ℤ pos i) ≤ℤ time) × (time ≤ℤ (shown.value +ℤ pos i)))
 
--- a later reading of a lane after an earlier one: it has no lower step number; at the same one no lower value; and a greater one is named
-pub record FollowsOn (history : History) (j : ℕ) (earlier later : Shown) : Type 0 where
+-- a later reading of a lane, given at this position, after an earlier one: it has no lower step number; at the same one no lower
+-- value; and a greater one is named before it
+pub record FollowsOn (later_position : History) (earlier later : Shown) : Type 0 where
   pub no_lower_step : earlier.step ≤ later.step
   pub no_lower_value : earlier.step ≡ later.step → earlier.value ≤ℤ later.value
-  pub named : earlier.step < later.step → (k : ℕ) × (k < j) × NamedAt history k later.step
+  pub named : earlier.step < later.step → IsNamedBefore later_position later.step
 
 pub record IsSafe (history : History) : Type 0 where
   -- in every honest world each reading contains true time
-  pub contains : (true_time : World) → IsHonest history true_time → (i : ℕ) (shown : Shown) → Gives history i shown → ContainsTime shown (true_time i)
+  pub contains : (world : World) → IsHonest history world → (position : History) (shown : Shown) → IsPositionOf position history
+      → Gives position shown → ContainsTime shown (time_at world position)
   -- in every history the readings of a lane never go back but across a step that the log names
-  pub follows_on : (i j : ℕ) (earlier later : Shown) → i < j → OfOneLane history i j → Gives history i earlier → Gives history j later → FollowsOn history j earlier later
+  pub follows_on : (p q : History) (earlier later : Shown) → IsPositionOf q history → ComesBefore p q → OfOneLane p q
+      → Gives p earlier → Gives q later → FollowsOn q earlier later
+
+-- the note names this tag as a false source
+abbrev pub IsFalseTag : NoteKind → ℕ → Type 0
+IsFalseTag (note.False (source.Tag named)) tag = named ≡ tag
+IsFalseTag _ tag = ⊥
+
+-- the action names this tag in the log as a false source, and a position does
+abbrev pub LogsFalse : Action → ℕ → Type 0
+LogsFalse (action.Log n) tag = IsFalseTag n.kind tag
+LogsFalse _ tag = ⊥
+
+abbrev pub NamesFalse : History → ℕ → Type 0
+NamesFalse position tag = (a : Action) × Contains (given_at position) a × LogsFalse a tag
+
+-- the tag gave an answer that the position adopts from, and that was false
+abbrev pub GaveFalse : World → History → ℕ → Type 0
+GaveFalse world (Begun settings start) tag = ⊥
+GaveFalse world (Then before event actions) tag = (a : Answer) × Contains (adopts_from before event) a × (a.tag ≡ tag) × (is_right world a ≡ false)
+
+-- in every honest world each source that is named as false gave a false interval
+abbrev pub NamesOnlyFalse : History → Type 0
+NamesOnlyFalse history = (world : World) → IsHonest history world → (position : History) (tag : ℕ) → IsPositionOf position history
+    → NamesFalse position tag → GaveFalse world position tag
