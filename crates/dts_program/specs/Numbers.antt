@@ -1,4 +1,4 @@
--- The numbers that the program ends with. Our own choice.
+-- The numbers that the program ends with.
 use Rattle.std.specs.Prelude.{ℕ}
 use Rattle.dts_program.specs.declared.status.Status.{Status}
 use Rattle.dts_program.specs.declared.status.Status.TheVariants as status

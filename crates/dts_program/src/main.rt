@@ -1,12 +1,11 @@
-//! The program of the time service: its commands over the outside that is handed in.
+//! The program of the time service: its commands over the outside that is handed in. Its commands, their statuses and
+//! the numbers that it ends with are our own choice.
 #![tactic(auto)]
 
 ghost use Rattle.std.specs.Prelude.{◌≡◌, IfOk, vec_len};
 
 mod command;
-mod node;
 mod outside;
-mod replay;
 mod status;
 #[cfg(test)]
 mod tests;
@@ -28,8 +27,8 @@ type Side = ServeSide<MemorySink, MemoryLink, MemoryOscillator>;
 // A serve side in memory.
 fn side(alloc: Global) -> Result<Side, NoMemory> {
     Ok(ServeSide {
-        link: MemoryLink::new(alloc),
-        osc: MemoryOscillator::new(),
+        link: MemoryLink::new(alloc, Vec::new(alloc), &[], &[])?,
+        osc: MemoryOscillator::new(alloc, &[])?,
         capture: MemorySink::new(alloc, &[])?,
         log: MemorySink::new(alloc, &[])?,
     })
@@ -79,9 +78,9 @@ fn real_outside(rt: &HostRuntime) -> Result<Real<'_>, NoMemory>
         roster_file: FileSource::new(rt, ROSTER),
         output: WriterSink::new(rt.stdout()),
         sync_capture: MemorySink::new(alloc, &[])?,
-        sync_link: MemoryLink::new(alloc),
-        sync_osc: MemoryOscillator::new(),
-        random: MemoryWords::new(),
+        sync_link: MemoryLink::new(alloc, Vec::new(alloc), &[], &[])?,
+        sync_osc: MemoryOscillator::new(alloc, &[])?,
+        random: MemoryWords::new(alloc, &[])?,
         serve: sides(alloc)?,
     })
 }
@@ -93,7 +92,7 @@ fn main(rt: HostRuntime) -> ExitCode {
         (_, Err(NoMemory)) => Status::NoMemory,
     };
     if status != Status::Done {
-        let _ = eprintln!(rt; "{status}");
+        let _ = eprintln!(rt; "dts: {status}");
     }
     ExitCode::from(status.number())
 }

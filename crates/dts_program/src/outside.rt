@@ -1,14 +1,14 @@
-ghost use Rattle.std.specs.Prelude.{◌≡◌, ◌⊎◌, ◌↔◌, ℕ, ◌≤◌, List, [], ◌∷◌, map, codes, vec_len, Some};
+ghost use Rattle.std.specs.Prelude.{◌≡◌, ◌⊎◌, ◌↔◌, ℕ, List, [], ◌∷◌, map, codes, vec_len, Some};
 ghost use Rattle.std.specs.String.{string_bytes};
 ghost use Rattle.dts_base.specs.Causes.{Rose};
-ghost use Rattle.slew_clock.specs.UsualRates.{usual_rates};
 ghost use Rattle.line_reader.specs.Lines.{lines_of};
-ghost use Rattle.dts_program.specs.Capture.{Capture, IsCapture};
-ghost use Rattle.utc_calculator.specs.Output.{RefusesNone};
-ghost use Rattle.dts_program.specs.Calculation.{HasCalculated};
-ghost use Rattle.dts_program.specs.Statuses.{IsReplayStatus, IsUtcStatus};
-ghost use Rattle.dts_program.specs.Output.{WroteSafely};
-ghost use Rattle.dts_program.specs.Progress.{HasReplayed};
+ghost use Rattle.line_filter.specs.Filters.{IsValid, RefusesAt};
+ghost use Rattle.utc_calculator.specs.declared.cause.UtcCause.{UtcCause};
+ghost use Rattle.utc_calculator.specs.Answers.{calculator};
+ghost use Rattle.slew_clock.specs.UsualRates.{usual_rates};
+ghost use Rattle.capture_replay.specs.Capture.{capture, unstarted};
+ghost use Rattle.dts_program.specs.Commands.{HasAnswered, HasReplayedSafely};
+ghost use Rattle.dts_program.specs.Statuses.{IsReplayStatus, IsUtcStatus, capture_status, utc_status};
 ghost use Rattle.dts_program.specs.declared.status.SourceName.{SourceName};
 ghost use Rattle.dts_program.specs.declared.status.SinkName.{SinkName};
 
@@ -54,8 +54,8 @@ pub struct Outside<I, F, O, C, L, K, W> {
     pub serve: Vec<ServeSide<C, L, K>>,
 }
 
-/// Runs a command line, the words after the program's name, over the outside that is handed in: `replay`, at
-/// the usual rates, or `utc`. Our own choice.
+/// Runs a command line, the words after the program's name, over the outside that is handed in: `replay`, at the usual
+/// rates, or `utc`.
 pub fn run<
     R: Threads + Wait + Sync,
     I: Source,
@@ -68,39 +68,47 @@ pub fn run<
 >(_rt: &R, alloc: Global, words: &[String], out: &mut Outside<I, F, O, C, L, K, W>) -> Status
     requires four { vec_len out.old.serve ≡ 4 }
 
-    // Usage comes exactly where the words are no command line, and then nothing is touched.
+    // Usage comes exactly where the words are no command line, and then nothing is touched. No command touches more than the input and the output.
     ensures usage { (result ≡ Status.Usage) ↔ ((map string_bytes words.now ≡ codes "replay" ∷ [] → ⊥) × (map string_bytes words.now ≡ codes "utc" ∷ [] → ⊥)) }
     ensures untouched { result ≡ Status.Usage → out.new ≡ out.old }
+    ensures others { out.new ≡ record out.old { input = out.new.input; output = out.new.output } }
 
-    // Each log is exactly what the rules define: what the output holds afterwards is what it held before, and then
-    // the text that the capture defines, and nothing else.
-    ensures log { map string_bytes words.now ≡ codes "replay" ∷ [] → (octets : List ℕ) → I.left out.old.input ≡ Some octets →
-        HasReplayed usual_rates (lines_of octets) result (O.written out.old.output) (O.written out.new.output) }
+    // What is done was read to its end.
     ensures read_to_end { result ≡ Status.Done → (octets : List ℕ) → I.left out.old.input ≡ Some octets → I.left out.new.input ≡ Some [] }
 
-    // In every honest world each reading that was written contains true time, and readings never go back
-    // but across a step that the log names: the log is that of a safe history.
+    // The log of `replay` is exactly what the rules define, of all lines or of those before the first refused one, and nothing else.
+    ensures log { map string_bytes words.now ≡ codes "replay" ∷ [] → (octets : List ℕ) → I.left out.old.input ≡ Some octets →
+        HasAnswered capture (unstarted usual_rates) capture_status octets (I.left out.new.input) result (O.written out.old.output) (O.written out.new.output) }
+
+    // In every honest world each reading that was written contains true time, and readings never go back but across a
+    // step that the log names: the log is that of a safe history.
     ensures safe { map string_bytes words.now ≡ codes "replay" ∷ [] → (octets : List ℕ) → I.left out.old.input ≡ Some octets →
-        WroteSafely usual_rates (lines_of octets) result (O.written out.old.output) (O.written out.new.output) }
+        HasReplayedSafely usual_rates result (O.written out.old.output) (O.written out.new.output) }
+
+    // A valid capture is never refused.
+    ensures complete { map string_bytes words.now ≡ codes "replay" ∷ [] → (octets text : List ℕ) → I.left out.old.input ≡ Some octets → IsValid capture (unstarted usual_rates) octets text →
+        (Rose (I.faults out.old.input) (I.faults out.new.input) → ⊥) → (Rose (O.faults out.old.output) (O.faults out.new.output) → ⊥) → (result ≡ Status.Done) ⊎ (result ≡ Status.NoMemory) }
 
     // The answers of `utc` are those that the routines define, to all lines or to those before the first refused one, and nothing else.
     ensures answers { map string_bytes words.now ≡ codes "utc" ∷ [] → (octets : List ℕ) → I.left out.old.input ≡ Some octets →
-        HasCalculated (lines_of octets) result (O.written out.old.output) (O.written out.new.output) }
+        HasAnswered calculator tt utc_status octets (I.left out.new.input) result (O.written out.old.output) (O.written out.new.output) }
 
-    // A valid capture is never refused, and no lines of which `utc` refuses none.
-    ensures complete { map string_bytes words.now ≡ codes "replay" ∷ [] → (octets : List ℕ) (capture : Capture) → I.left out.old.input ≡ Some octets → IsCapture octets capture →
+    // No lines of which `utc` refuses none are refused. Valid lines are such.
+    ensures utc_complete { map string_bytes words.now ≡ codes "utc" ∷ [] → (octets text : List ℕ) → I.left out.old.input ≡ Some octets → IsValid calculator tt octets text →
         (Rose (I.faults out.old.input) (I.faults out.new.input) → ⊥) → (Rose (O.faults out.old.output) (O.faults out.new.output) → ⊥) → (result ≡ Status.Done) ⊎ (result ≡ Status.NoMemory) }
-
-    ensures utc_complete { map string_bytes words.now ≡ codes "utc" ∷ [] → (octets : List ℕ) → I.left out.old.input ≡ Some octets → RefusesNone (lines_of octets) →
+    ensures utc_unrefused { map string_bytes words.now ≡ codes "utc" ∷ [] → (octets : List ℕ) → I.left out.old.input ≡ Some octets →
+        ((n : ℕ) (cause : UtcCause) (text : List ℕ) → RefusesAt calculator tt (lines_of octets) n cause text → ⊥) →
         (Rose (I.faults out.old.input) (I.faults out.new.input) → ⊥) → (Rose (O.faults out.old.output) (O.faults out.new.output) → ⊥) → (result ≡ Status.Done) ⊎ (result ≡ Status.NoMemory) }
 
     // Each command answers its own statuses.
     ensures replay_statuses { map string_bytes words.now ≡ codes "replay" ∷ [] → IsReplayStatus result }
     ensures utc_statuses { map string_bytes words.now ≡ codes "utc" ∷ [] → IsUtcStatus result }
 
-    // A fault is answered only where the faults of that object rose.
+    // A fault is answered exactly where the faults of that object rose: where none is answered they stayed.
     ensures read_fault { (which : SourceName) → result ≡ Status.ReadFault which → (which ≡ SourceName.Input) × Rose (I.faults out.old.input) (I.faults out.new.input) }
     ensures write_fault { (which : SinkName) → result ≡ Status.WriteFault which → (which ≡ SinkName.Output) × Rose (O.faults out.old.output) (O.faults out.new.output) }
+    ensures read_kept { ((which : SourceName) → result ≡ Status.ReadFault which → ⊥) → I.faults out.new.input ≡ I.faults out.old.input }
+    ensures write_kept { ((which : SinkName) → result ≡ Status.WriteFault which → ⊥) → O.faults out.new.output ≡ O.faults out.old.output }
 {
     match words {
         [word] if word.as_str() == "replay" => {

@@ -2,7 +2,7 @@ use dts_capture::LineCause;
 use thiserror::Error;
 use utc_calculator::UtcCause;
 
-/// The sources of the program. Our own choice.
+/// The sources of the program.
 #[derive(Clone, Copy, Debug, PartialEq, Eq, Error)]
 pub enum SourceName {
     /// Standard input.
@@ -13,7 +13,7 @@ pub enum SourceName {
     RosterFile,
 }
 
-/// The sinks of the program. Our own choice.
+/// The sinks of the program.
 #[derive(Clone, Copy, Debug, PartialEq, Eq, Error)]
 pub enum SinkName {
     /// Standard output.
@@ -24,14 +24,20 @@ pub enum SinkName {
     SyncCapture,
     /// The capture of a serve half.
     #[error("the serve capture {worker}")]
-    ServeCapture { worker: u32 },
+    ServeCapture {
+        /// The number of the half, from 0.
+        worker: u32,
+    },
     /// The log of a serve half.
     #[error("the serve log {worker}")]
-    ServeLog { worker: u32 },
+    ServeLog {
+        /// The number of the half, from 0.
+        worker: u32,
+    },
 }
 
-/// What a command answers. Our own choice.
-#[derive(Clone, Copy, Debug, PartialEq, Eq, Error)]
+/// What a command answers.
+#[derive(Debug, PartialEq, Eq, Drop, Error)]
 pub enum Status {
     /// The input was read to its end.
     #[error("done")]
@@ -42,18 +48,23 @@ pub enum Status {
     /// A line of the capture is refused; the log of the earlier lines stands.
     #[error("line {line}, column {column}: {cause}")]
     CaptureRefused {
+        /// Its number, from 1.
         line: u64,
+        /// The column of the first wrong field, from 1.
         column: u32,
+        /// What is wrong with it.
         cause: LineCause,
     },
     /// A source failed.
     #[error("{which} can't be read")]
     ReadFault {
+        /// Which one.
         which: SourceName,
     },
     /// A sink failed; what was written is the beginning of the output.
     #[error("{which} can't be written")]
     WriteFault {
+        /// Which one.
         which: SinkName,
     },
     /// No memory was found; what was written is the beginning of the output.
@@ -62,7 +73,9 @@ pub enum Status {
     /// A line of the calculator is refused; the answers to the earlier lines stand.
     #[error("line {line}: {cause}")]
     UtcRefused {
+        /// Its number, from 1.
         line: u64,
+        /// What is wrong with it.
         cause: UtcCause,
     },
 }
@@ -72,8 +85,8 @@ impl Status {
     ghost use Rattle.dts_program.specs.Numbers.{number_of};
 
     /// The number that the program ends with.
-    pub fn number(self) -> u8
-        ensures number { result ≡ number_of self }
+    pub fn number(&self) -> u8
+        ensures number { result ≡ number_of self.now }
     {
         match self {
             Status::Done => 0,

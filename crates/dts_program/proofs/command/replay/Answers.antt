@@ -1,16 +1,13 @@
-use Rattle.std.proofs.Common.{Err, ap}
-use Rattle.dts_program.proofs.Answering.{complete, safely}
+use Rattle.std.proofs.Common.{sym, ◌∙◌}
+use Rattle.dts_program.specs.declared.status.Status.TheVariants as status
+use Rattle.capture_replay.specs.declared.fault.CaptureFault.{CaptureFault}
+use Rattle.dts_program.proofs.Ending.{read_to_end, done_or_no_memory}
 use Rattle.dts_program.proofs.command.replay.Goals as goal
 
-pub returns-in-Ok-clause-safe : goal.returns-in-Ok-clause-safe
-returns-in-Ok-clause-safe g c = λ octets told. safely _ _ _ _ _ (c.in-Ok.ensures.log octets told)
+pub returns-clause-read_to_end : goal.returns-clause-read_to_end
+returns-clause-read_to_end g c = λ done octets there.
+    read_to_end _ _ (λ line (fault : CaptureFault). status.CaptureRefused line fault.column fault.cause) (λ n cause e. cc) octets _ _ _ c.replay.result (c.replay.ensures.log octets there) (sym c.capture_status.ensures ∙ done)
 
-pub returns-in-Err-clause-safe : goal.returns-in-Err-clause-safe
-returns-in-Err-clause-safe g c = λ octets told. safely _ _ _ _ _ (c.in-Err.ensures.log octets told)
-
-pub returns-in-Err-clause-complete : goal.returns-in-Err-clause-complete
-returns-in-Err-clause-complete g c = λ octets capture told is quiet_read quiet_write.
-    let has = c.in-Err.ensures.log octets told in
-    complete c.args.rates _ c.in-Err.status has.text capture has.replays is
-    (λ which fault. quiet_read (c.in-Err.ensures.read_cause.failed which (ap Err fault)).1)
-    (λ which fault. quiet_write (c.in-Err.ensures.write_cause.failed which (ap Err fault)).1)
+pub returns-clause-complete : goal.returns-clause-complete
+returns-clause-complete g c = λ octets text there valid calm_in calm_out.
+    rw c.capture_status.ensures (done_or_no_memory (λ line (fault : CaptureFault). status.CaptureRefused line fault.column fault.cause) c.replay.result (c.replay.ensures.complete octets text there valid calm_in calm_out))

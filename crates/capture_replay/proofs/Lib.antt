@@ -1,0 +1,5 @@
+pub mod Exclusive
+pub mod LineFacts
+pub mod SafeLogs
+pub mod Stepping
+pub mod Taking

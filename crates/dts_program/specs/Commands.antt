@@ -1,0 +1,23 @@
+-- What a command reads and writes where it answers a status.
+use Rattle.std.specs.Prelude.{◌≡◌, ℕ, List, Option, Result}
+use Rattle.line_filter.specs.declared.stop.Stop.{Stop}
+use Rattle.line_filter.specs.Filters.{Rules, HasFiltered}
+use Rattle.slew_clock.specs.declared.rates.Rates.{Rates}
+use Rattle.capture_replay.specs.declared.fault.CaptureFault.{CaptureFault}
+use Rattle.capture_replay.specs.SafeLogs.{WroteSafely}
+use Rattle.dts_program.specs.declared.status.Status.{Status}
+use Rattle.dts_program.specs.Statuses.{capture_status}
+
+-- The command's filter ended or stopped over these octets in a way that has this status, and of what the input tells to be
+-- left and the output to hold now, this is what it read and wrote.
+pub record HasAnswered {State Cause : Type 0} (rules : Rules State Cause) (from : State) (status_of : Result (Unit {0}) (Stop Cause) → Status) (octets : List ℕ) (left : Option (List ℕ)) (s : Status) (before now : Option (List ℕ)) : Type 0 where
+  pub end : Result (Unit {0}) (Stop Cause)
+  pub is : s ≡ status_of end
+  pub filtered : HasFiltered rules from octets left end before now
+
+-- The replay ended or stopped in a way that has this status, and what was written is the log of a safe history at these rates, or where
+-- the output failed the beginning of one.
+pub record HasReplayedSafely (rates : Rates) (s : Status) (before now : Option (List ℕ)) : Type 0 where
+  pub end : Result (Unit {0}) (Stop CaptureFault)
+  pub is : s ≡ capture_status end
+  pub safe : WroteSafely rates end before now
