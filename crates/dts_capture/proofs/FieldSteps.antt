@@ -47,7 +47,7 @@ ok_is_no_error : (r : Result (List ℕ) FromHexError) (b : List ℕ) (e : FromHe
 ok_is_no_error r b e h k = cc
 
 -- a field that is neither the dash for no octets nor hex is the text of no octets
-no_octets : (may_be_empty : Bool) (field : List ℕ) (e : FromHexError) → ((may_be_empty ≡ true) × (field ≡ codes "-") → ⊥) → decode_of field ≡ Err e → (b : List ℕ) → Reads (Octets may_be_empty) field b → ⊥
+pub no_octets : (may_be_empty : Bool) (field : List ℕ) (e : FromHexError) → ((may_be_empty ≡ true) × (field ≡ codes "-") → ⊥) → decode_of field ≡ Err e → (b : List ℕ) → Reads (Octets may_be_empty) field b → ⊥
 no_octets may_be_empty field e none wrong b (inl h) = none (h.0, h.1)
 no_octets may_be_empty field e none wrong b (inr h) = ok_is_no_error _ b e h.1 wrong
 

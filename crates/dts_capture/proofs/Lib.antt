@@ -4,3 +4,12 @@ pub mod FormLaws
 pub mod Parsed
 pub mod FieldSteps
 pub mod TextLaws
+mod Graphic
+mod KindTexts
+mod FormTexts
+mod Printed
+pub mod LineTexts
+pub mod Lengths
+pub mod AnyRecord
+pub mod EachLine
+mod Rows

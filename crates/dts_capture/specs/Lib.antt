@@ -6,3 +6,4 @@ pub mod Writing
 pub mod Parsing
 pub mod Cursors
 pub mod Printing
+pub mod Ranges

@@ -45,9 +45,13 @@ event_fields (event.Query osc tag) = decimal osc ∷ decimal tag ∷ []
 event_fields (event.Source osc tag interval) = decimal osc ∷ decimal tag ∷ interval_fields interval
 event_fields (event.Adopt osc required) = decimal osc ∷ decimal required ∷ []
 
--- the line of a value; nothing prints as an empty line
+-- the fields of a line: none where it says nothing
+abbrev pub line_fields : Line → List (List ℕ)
+line_fields line.Blank = []
+line_fields (line.Start osc value first) = codes "start" ∷ decimal osc ∷ signed_decimal value ∷ first_fields first
+line_fields (line.Event None e) = event_word e ∷ event_fields e
+line_fields (line.Event (Some k) e) = codes "at" ∷ decimal k ∷ event_word e ∷ event_fields e
+
+-- the text of a line; nothing prints as an empty line
 abbrev pub line_text : Line → List ℕ
-line_text line.Blank = []
-line_text (line.Start osc value first) = text_of (codes "start" ∷ decimal osc ∷ signed_decimal value ∷ first_fields first)
-line_text (line.Event None e) = text_of (event_word e ∷ event_fields e)
-line_text (line.Event (Some k) e) = text_of (codes "at" ∷ decimal k ∷ event_word e ∷ event_fields e)
+line_text l = text_of (line_fields l)

@@ -14,7 +14,7 @@ mod writer;
 
 pub use action::{Action, FalseSource, Note, NoteKind};
 pub use event::Event;
-pub use laws::lines_have_one_reading;
+pub use laws::{lines_can_be_spelled, lines_have_one_reading};
 pub use limits::{FIRST_CONNECTION, GREATEST_COUNT, MAX_TAGS};
 pub use line::{Line, LineCause, LineFault};
 pub use log::{append_action, print_action};

@@ -36,7 +36,8 @@ pub enum LineCause {
     #[error("a decimal number without leading zeros should stand here")]
     Number,
     /// A number is out of its range.
-    #[error("this number is out of its range")]
+    #[error("this number is out of its range: OSC is 0 to 2^60, VALUE, LO and HI 0 to 2^61, PEER and TAG 0 to 2^32 - 1, \
+         CONN 1000 to 2^32 - 1, REQUIRED 1 to 64, K 0 to 2^64 - 1")]
     Range,
     /// A field is no hex text.
     #[error("hex digits should stand here: 16 of them for a word, two an octet for octets")]
@@ -45,7 +46,7 @@ pub enum LineCause {
     #[error("the high end is below the low end")]
     Order,
     /// What follows the number of a record is no serve event, or the record is not the current one.
-    #[error("this is no event of a serve capture, or not the number of the current record")]
+    #[error("at K should name the current record, and read, ask, or lost or unsent of a peer from 1000 should follow it")]
     At,
     /// The first line that is not blank is no start line, or a later one is.
     #[error("a capture begins with one start line, and has no other")]

@@ -1,6 +1,7 @@
-ghost use Rattle.std.specs.Prelude.{◌≡◌, ◌∷◌, [], IfOk, OnOk, codes, decimal};
+ghost use Rattle.std.specs.Prelude.{◌≡◌, ◌∷◌, [], ℕ, List, Option, IfOk, OnOk, codes, decimal};
 ghost use Rattle.std.specs.Fmt.{signed_decimal};
 ghost use Rattle.dts_capture.specs.Log.{hex_or_dash};
+ghost use Rattle.dts_capture.specs.Spelling.{Spells};
 ghost use Rattle.dts_capture.specs.Printing.{interval_fields, first_fields, event_word, event_fields, line_text};
 ghost use Rattle.dts_capture.specs.Writing.{Adds, Begins};
 
@@ -13,15 +14,24 @@ use std::alloc::Global;
 /// octets in hex in lower case. [`Line::Blank`] is an empty line. The only error is that no memory was found.
 pub fn print_line(alloc: Global, line: &Line) -> Result<Text, NoMemory>
     ensures text { IfOk result (λ text. text ≡ line_text line.now) }
+
+    // It says the line wherever any text does, so reading it gives the line.
+    ensures reads_back { IfOk result (λ text. (current : Option ℕ) (written : List ℕ) → Spells current written line.now → Spells current text line.now) }
+{
+    Ok(written(alloc, line)?.end())
+}
+
+fn written(alloc: Global, line: &Line) -> Result<LineWriter, NoMemory>
+    ensures { IfOk result (λ text. text ≡ line_text line.now) }
 {
     match line {
-        Line::Blank => Ok(Text::from_vec(Vec::new(alloc))),
-        Line::Start { osc, value, first } => Ok(start(alloc, *osc, *value, *first)?.end()),
-        Line::Event { at: None, event } => Ok(event_line(alloc, event)?.end()),
+        Line::Blank => LineWriter::new(alloc, ""),
+        Line::Start { osc, value, first } => start(alloc, *osc, *value, *first),
+        Line::Event { at: None, event } => event_line(alloc, event),
         Line::Event {
             at: Some(number),
             event,
-        } => Ok(served_line(alloc, *number, event)?.end()),
+        } => served_line(alloc, *number, event),
     }
 }
 

@@ -7,4 +7,5 @@ pub mod Reading
 mod Cuts
 pub mod FieldFacts
 pub mod Decimals
+pub mod Deciding
 mod Rows

@@ -1,6 +1,6 @@
 //! Laws of fields and of numbers. These functions do nothing: their contracts are the laws.
 
-ghost use Rattle.std.specs.Prelude.{◌≡◌, ◌↔◌, ℕ, ◌+◌, ◌-◌, ◌^◌, ◌<◌, List, [], ◌∷◌, ◌++◌, length, take, drop, ℤ, unsigned_abs};
+ghost use Rattle.std.specs.Prelude.{◌≡◌, ◌↔◌, ◌⊎◌, ℕ, ◌+◌, ◌-◌, ◌^◌, ◌<◌, List, [], ◌∷◌, ◌++◌, length, take, drop, ℤ, unsigned_abs};
 ghost use Rattle.std.specs.Fmt.{signed_decimal};
 ghost use Rattle.line_reader.specs.Fields.{text_of, fields_of, column_of};
 ghost use Rattle.line_reader.specs.Laws.{HaveNoSpace};
@@ -26,8 +26,9 @@ pub fn numbers_have_one_text()
     ensures text { (field : List ℕ) (z : ℤ) → unsigned_abs z < 2 ^ 64 → (IsWhole field z ↔ (field ≡ signed_decimal z)) }
 {}
 
-/// A field that writes a number of the range has no fault, and another has one.
+/// A field that writes a number of the range has no fault, and any other has one.
 pub fn number_faults_exclude()
     ensures number { (field : List ℕ) (from to z : ℤ) (fault : NumberFault) → IsNumberFault from to field fault → IsWhole field z → IsWithin from to z → ⊥ }
     ensures fault { (field : List ℕ) (from to : ℤ) (fault other : NumberFault) → IsNumberFault from to field fault → IsNumberFault from to field other → fault ≡ other }
+    ensures total { (field : List ℕ) (from to : ℤ) → ((z : ℤ) × IsWhole field z × IsWithin from to z) ⊎ ((fault : NumberFault) × IsNumberFault from to field fault) }
 {}
