@@ -12,19 +12,8 @@ use Rattle.line_reader.proofs.Reading.{told_on, taken_none, taken_more, taken_al
 use Rattle.line_filter.specs.declared.stop.Stop.{Stop}
 use Rattle.line_filter.specs.declared.stop.Stop.TheVariants as stop
 use Rattle.line_filter.specs.Filters.{Rules, TakesLines, RefusesLine, TakesFront, HasFiltered}
-use Rattle.line_filter.specs.Steps.{TakesNumbered, StopsAt}
+use Rattle.line_filter.specs.Steps.{Stands, TakesNumbered, StopsAt}
 use Rattle.line_filter.proofs.TakeFacts.{no_lines, lines_more}
-
--- Of the octets so many lines were taken, in a state that is stood for, and their text was written since the sink told `before`.
-pub record Stands {State Cause : Type 0} (rules : Rules State Cause) (At : State → Type 0) (from : State) (octets : List ℕ) (number : ℕ) (reader : Reader) (left before now : Option (List ℕ)) : Type 0 where
-  pub taken : List (List ℕ)
-  pub has : HasTaken octets taken reader left
-  pub count : number ≡ length taken
-  pub state : State
-  pub at : At state
-  pub text : List ℕ
-  pub takes : TakesLines rules from taken state text
-  pub wrote : Wrote before now text
 
 -- a part of a piece was written
 Wrote-part : (now more : Option (List ℕ)) (piece : List ℕ) → Told now more (AppendsPart piece) → (part : List ℕ) × BeginsWith part piece × Wrote now more part

@@ -6,7 +6,7 @@ ghost use Rattle.line_reader.specs.Reader.{Advances};
 ghost use Rattle.line_filter.specs.Filters.{Rules, HasFiltered, IsValid};
 ghost use Rattle.line_filter.specs.Laws.{IsExclusive};
 ghost use Rattle.line_filter.specs.Progress.{StopCause, IsUnfit, TakesNext};
-ghost use Rattle.line_filter.specs.Steps.{TakesNumbered, StopsAt};
+ghost use Rattle.line_filter.specs.Steps.{Stands, TakesNumbered, StopsAt};
 
 use crate::Stop;
 use dts_base::{Sink, Source, write_all};
@@ -157,29 +157,30 @@ pub fn filter_lines<F: LineFilter, I: Source, O: Sink>(
     ensures complete { IsExclusive F.rules → (octets text : List ℕ) (from : F.State) → I.left input.old ≡ Some octets → F.stands filter.old 0 from → IsValid F.rules from octets text →
         (Rose (I.faults input.old) (I.faults input.new) → ⊥) → (Rose (O.faults output.old) (O.faults output.new) → ⊥) → (result ≡ Ok tt) ⊎ (result ≡ Err Stop.NoMemory) }
 {
-    filter_all(alloc, filter, input, output)
+    match LineReader::new(alloc) {
+        Ok(mut reader) => filter_behind(alloc, filter, 0, &mut reader, input, output),
+        Err(_) => Err(Stop::NoMemory),
+    }
 }
 
-// Takes the lines and writes their texts.
-fn filter_all<F: LineFilter, I: Source, O: Sink>(
+// Takes the lines behind so many others, which the reader took, and writes their texts.
+pub(crate) fn filter_behind<F: LineFilter, I: Source, O: Sink>(
     alloc: Global,
     filter: &mut F,
+    mut before: u64,
+    reader: &mut LineReader,
     input: &mut I,
     output: &mut O,
 ) -> Result<(), Stop<F::Cause>>
-    requires { (state : F.State) × F.stands filter.old 0 state }
-    ensures filtered { (octets : List ℕ) (from : F.State) → I.left input.old ≡ Some octets → F.stands filter.old 0 from →
-        HasFiltered F.rules from octets (I.left input.new) result (O.written output.old) (O.written output.new) }
+    requires few { before ≤ MAX_LINES }
+    requires stands { (state : F.State) × F.stands filter.old before state }
+    ensures filtered { (octets : List ℕ) (from : F.State) (told : Option (List ℕ)) → Stands F.rules (F.stands filter.old before) from octets before reader.old (I.left input.old) told (O.written output.old) →
+        HasFiltered F.rules from octets (I.left input.new) result told (O.written output.new) }
     ensures read_cause { StopCause Stop.Read (I.faults input.old) (I.faults input.new) result }
     ensures write_cause { StopCause Stop.Write (O.faults output.old) (O.faults output.new) result }
 {
-    let mut reader = match LineReader::new(alloc) {
-        Ok(reader) => reader,
-        Err(_) => return Err(Stop::NoMemory),
-    };
     let mut text = Vec::new(alloc);
-    let mut before = 0;
-    while next_line(&mut reader, input)? {
+    while next_line(reader, input)? {
         take_line(alloc, filter, before, reader.line(), &mut text)?;
         write_text(output, text.as_slice())?;
         before += 1;

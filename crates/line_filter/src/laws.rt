@@ -1,8 +1,9 @@
 //! Laws of filters. These functions do nothing: their contracts are the laws.
 
-ghost use Rattle.std.specs.Prelude.{◌≡◌, ℕ, List, [], Err, Result};
+ghost use Rattle.std.specs.Prelude.{◌≡◌, ℕ, ◌≤◌, List, [], Err, Result};
+ghost use Rattle.line_reader.specs.declared.limits.TheConstants.{MAX_LINES};
 ghost use Rattle.line_filter.specs.declared.stop.Stop.{Stop};
-ghost use Rattle.line_filter.specs.Filters.{Filters, IsValid};
+ghost use Rattle.line_filter.specs.Filters.{Filters, IsValid, RefusesLine};
 ghost use Rattle.line_filter.specs.Laws.{IsExclusive, IsTotal, IsSettled};
 
 use crate::LineFilter;
@@ -23,4 +24,9 @@ pub fn valid_input_is_not_refused<F: LineFilter>()
 pub fn each_input_is_settled<F: LineFilter>()
     ensures { IsTotal F.rules → (from : F.State) (octets : List ℕ) →
         (result : Result (Unit {0}) (Stop F.Cause)) × (text : List ℕ) × IsSettled result × Filters F.rules from octets [] result text }
+{}
+
+/// A line behind as many as an input may have is refused as one too many, also where it is too long.
+pub fn too_many_comes_first<F: LineFilter>()
+    ensures { (before : ℕ) (state : F.State) (line : List ℕ) (cause : F.Cause) → MAX_LINES ≤ before → RefusesLine F.rules before state line cause → cause ≡ F.rules.too_many }
 {}

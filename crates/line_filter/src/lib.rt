@@ -7,7 +7,9 @@ mod laws;
 mod stop;
 
 pub use filter::{LineFilter, Unfit, filter_lines};
-pub use laws::{each_input_is_settled, one_way_to_end, valid_input_is_not_refused};
+pub use laws::{
+    each_input_is_settled, one_way_to_end, too_many_comes_first, valid_input_is_not_refused,
+};
 pub use stop::Stop;
 
 #[cfg(test)]

@@ -1,9 +1,9 @@
 ghost use Rattle.std.specs.Prelude.{◌≤◌};
 
-use crate::filter::take_line;
+use crate::filter::filter_behind;
 use crate::*;
 use dts_base::{Failed, MemorySink, MemorySource, Sink};
-use line_reader::{MAX_LINE, MAX_LINES};
+use line_reader::{LineReader, MAX_LINE, MAX_LINES};
 use std::alloc::Global;
 use std::process::Abort;
 use std::test::Fail;
@@ -160,26 +160,48 @@ fn a_text_is_one_piece_and_an_empty_one_is_none(rt: HostRuntime) -> Result<(), F
     Ok(())
 }
 
-// The line behind so many others is taken, or it is line 2^32 and is refused.
-fn expect_taken(rt: &impl Abort, alloc: Global, before: u64, expected: Result<(), Stop<Wrong>>)
+// Filters the octets behind so many lines, and expects this answer and this text.
+fn expect_behind(
+    rt: &impl Abort,
+    alloc: Global,
+    before: u64,
+    octets: &[u8],
+    expected: Result<(), Stop<Wrong>>,
+    text: &[u8],
+) -> Result<(), Fail>
     requires { before ≤ MAX_LINES }
 {
+    let mut input = MemorySource::new(alloc, octets, &[])?;
+    let mut output = MemorySink::new(alloc, &[])?;
     let mut filter = Copies { any: false };
-    let mut text = Vec::new(alloc);
-    assert_eq!(rt;
-        take_line(alloc, &mut filter, before, b"x", &mut text),
-        expected
+    let mut reader = LineReader::new(alloc)?;
+    let answer = filter_behind(
+        alloc,
+        &mut filter,
+        before,
+        &mut reader,
+        &mut input,
+        &mut output,
     );
+    assert_eq!(rt; answer, expected);
+    assert_eq!(rt; output.written(), text);
+    Ok(())
 }
 
 #[test]
-fn an_input_has_up_to_4294967295_lines(rt: HostRuntime) {
-    expect_taken(&rt, rt.alloc(), MAX_LINES - 1, Ok(()));
-    let many = Stop::Refused {
+fn an_input_has_up_to_4294967295_lines(rt: HostRuntime) -> Result<(), Fail> {
+    let many = Err(Stop::Refused {
         line: 4_294_967_296,
         cause: Wrong::Many,
-    };
-    expect_taken(&rt, rt.alloc(), MAX_LINES, Err(many));
+    });
+    expect_behind(&rt, rt.alloc(), MAX_LINES - 2, b"x\ny\n", Ok(()), b"x\ny\n")?;
+    expect_behind(&rt, rt.alloc(), MAX_LINES - 1, b"x", Ok(()), b"x\n")?;
+    expect_behind(&rt, rt.alloc(), MAX_LINES - 1, b"x\ny\n", many, b"x\n")?;
+    expect_behind(&rt, rt.alloc(), MAX_LINES - 1, b"x\nno\n", many, b"x\n")?;
+    expect_behind(&rt, rt.alloc(), MAX_LINES, b"x", many, b"")?;
+    // of a line that is both too many and too long it is told that it is too many
+    let longer = vec![in rt.alloc(); b'x'; MAX_LINE + 1]?;
+    expect_behind(&rt, rt.alloc(), MAX_LINES, longer.as_slice(), many, b"")
 }
 
 #[test]
@@ -229,5 +251,6 @@ fn stops_have_texts(rt: HostRuntime) -> Result<(), Fail> {
     one_way_to_end::<Copies>();
     valid_input_is_not_refused::<Copies>();
     each_input_is_settled::<Copies>();
+    too_many_comes_first::<Copies>();
     Ok(())
 }
