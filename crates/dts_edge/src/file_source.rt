@@ -1,8 +1,10 @@
-ghost use Rattle.std.specs.Prelude.{◌≡◌, None};
+ghost use Rattle.std.specs.Prelude.{◌≡◌, ◌<◌, ◌↔◌, None, IsSome};
 ghost use Rattle.std.specs.Io.{ReadsAtMost};
 
+use crate::faults::Faults;
 use crate::interrupted::read_again;
 use dts_base::{Failed, Source};
+use std::io::ErrorKind;
 use std::rt::Files;
 use std::{fs, io};
 
@@ -12,21 +14,30 @@ pub struct FileSource<'a, R: Files> {
     rt: &'a R,
     path: &'a str,
     file: Option<R::File>,
-    faults: u64,
+    faults: Faults,
 }
 
 impl<'a, R: Files> FileSource<'a, R> {
     /// A source over the file of this path, which is not opened yet.
     pub fn new(rt: &'a R, path: &'a str) -> Self
-        ensures faults { result.faults ≡ 0 }
+        ensures faults { result.faults.count ≡ 0 }
         ensures path { result.path.now ≡ path.now }
     {
         FileSource {
             rt,
             path,
             file: None,
-            faults: 0,
+            faults: Faults::none(),
         }
+    }
+
+    /// What the system said of the last read that failed, or of opening the file for it; none where no read failed
+    /// yet.
+    pub fn fault(&self) -> Option<ErrorKind>
+        ensures some { IsSome result ↔ (0 < self.now.faults.count) }
+        ensures last { result ≡ self.now.faults.last }
+    {
+        self.faults.last()
     }
 }
 
@@ -53,15 +64,10 @@ fn read_open<R: Files>(
 impl<R: Files> Source for FileSource<'_, R> {
     ghost left = { λ _. None };
 
-    ghost faults = { λ s. s.faults };
+    ghost faults = { λ s. s.faults.count };
 
     fn read(&mut self, buf: &mut [u8]) -> Result<usize, Failed> {
-        match read_open(self.rt, self.path, &mut self.file, buf) {
-            Ok(count) => Ok(count),
-            Err(_) => {
-                self.faults = self.faults.saturating_add(1);
-                Err(Failed)
-            }
-        }
+        self.faults
+            .take(read_open(self.rt, self.path, &mut self.file, buf))
     }
 }

@@ -1,8 +1,9 @@
 use crate::*;
 use dts_base::{Failed, Sink, Source, write_all};
 use std::alloc::{AllocError, Global};
-use std::fs;
+use std::fs::{self, File};
 use std::io::{self, ErrorKind, Read, Write};
+use std::process::Abort;
 use std::test::Fail;
 
 // How many octets the fakes hold: more than a page, so that a buffer within an adapter is seen.
@@ -12,7 +13,7 @@ const LENGTH: usize = 5000;
 #[derive(Clone, Copy)]
 enum Step {
     Move(usize),
-    Fail,
+    Fail(ErrorKind),
     Interrupt,
 }
 
@@ -33,7 +34,7 @@ fn next_move(steps: &mut &[Step]) -> io::Result<usize> {
     *steps = rest;
     match *step {
         Step::Move(count) => Ok(count),
-        Step::Fail => Err(ErrorKind::Other.into()),
+        Step::Fail(kind) => Err(kind.into()),
         Step::Interrupt => Err(ErrorKind::Interrupted.into()),
     }
 }
@@ -92,29 +93,49 @@ fn drained<S: Source>(alloc: Global, source: &mut S) -> Result<(Vec<u8>, usize),
 #[test]
 fn a_reader_loses_doubles_and_hides_nothing(rt: HostRuntime) -> Result<(), Fail> {
     let whole = octets(rt.alloc())?;
-    let cases: [(usize, &[Step], usize); 7] = [
-        (usize::MAX, &[], 0),
-        (1, &[], 0),
-        (usize::MAX, &[Step::Fail], 1),
-        (usize::MAX, &[Step::Move(2000), Step::Fail], 1),
-        (usize::MAX, &[Step::Move(2000), Step::Fail, Step::Fail], 2),
+    let busy = Step::Fail(ErrorKind::ResourceBusy);
+    let late = Step::Fail(ErrorKind::TimedOut);
+    let cases: [(usize, &[Step], usize, Option<ErrorKind>); 7] = [
+        (usize::MAX, &[], 0, None),
+        (1, &[], 0, None),
+        (usize::MAX, &[busy], 1, Some(ErrorKind::ResourceBusy)),
+        (
+            usize::MAX,
+            &[Step::Move(2000), late],
+            1,
+            Some(ErrorKind::TimedOut),
+        ),
+        (
+            usize::MAX,
+            &[Step::Move(2000), busy, Step::Move(1), late],
+            2,
+            Some(ErrorKind::TimedOut),
+        ),
         (
             usize::MAX,
             &[Step::Move(2000), Step::Interrupt, Step::Interrupt],
             0,
+            None,
         ),
-        (usize::MAX, &[Step::Interrupt, Step::Fail, Step::Move(1)], 1),
+        (
+            usize::MAX,
+            &[Step::Interrupt, busy, Step::Move(1)],
+            1,
+            Some(ErrorKind::ResourceBusy),
+        ),
     ];
-    for (most, steps, faults) in cases {
+    for (most, steps, faults, said) in cases {
         let mut source = ReaderSource::new(FakeReader {
             left: whole.as_slice(),
             most,
             steps,
         });
+        assert_eq!(rt; source.fault(), None, "no read failed yet");
         let (read, failed) = drained(rt.alloc(), &mut source)?;
         assert_eq!(rt; read, whole);
         assert_eq!(rt; failed, faults);
         assert_eq!(rt; source.read(&mut [0u8; 8]), Ok(0), "it stays at its end");
+        assert_eq!(rt; source.fault(), said, "the last fault is kept");
     }
     Ok(())
 }
@@ -133,41 +154,59 @@ fn a_reader_gives_what_came_at_once(rt: HostRuntime) -> Result<(), Fail> {
 #[test]
 fn a_writer_loses_doubles_and_hides_nothing(rt: HostRuntime) -> Result<(), Fail> {
     let whole = octets(rt.alloc())?;
-    let cases: [(usize, &[Step], Result<(), Failed>, usize); 6] = [
-        (usize::MAX, &[], Ok(()), LENGTH),
-        (1, &[], Ok(()), LENGTH),
+    let full = Step::Fail(ErrorKind::StorageFull);
+    let cases: [(usize, &[Step], usize, Option<ErrorKind>); 6] = [
+        (usize::MAX, &[], LENGTH, None),
+        (1, &[], LENGTH, None),
         (
             usize::MAX,
             &[Step::Move(2000), Step::Interrupt, Step::Interrupt],
-            Ok(()),
             LENGTH,
+            None,
         ),
-        (usize::MAX, &[Step::Fail], Err(Failed), 0),
+        (usize::MAX, &[full], 0, Some(ErrorKind::StorageFull)),
         (
             usize::MAX,
-            &[Step::Move(2000), Step::Fail],
-            Err(Failed),
+            &[Step::Move(2000), full],
             2000,
+            Some(ErrorKind::StorageFull),
         ),
         (
             usize::MAX,
             &[Step::Move(2000), Step::Move(0)],
-            Err(Failed),
             2000,
+            Some(ErrorKind::WriteZero),
         ),
     ];
-    for (most, steps, outcome, count) in cases {
+    for (most, steps, count, said) in cases {
         let mut writer = FakeWriter {
             taken: Vec::new(rt.alloc()),
             most,
             steps,
         };
         let mut sink = WriterSink::new(&mut writer);
-        assert_eq!(rt; write_all(&mut sink, whole.as_slice()), outcome);
+        assert_eq!(rt; sink.fault(), None, "no write failed yet");
+        let outcome = write_all(&mut sink, whole.as_slice());
+        assert_eq!(rt; outcome.is_err(), said.is_some());
         assert_eq!(rt; sink.write(b""), Ok(0), "nothing is nothing taken");
+        assert_eq!(rt; sink.fault(), said, "the last fault is kept");
         assert_eq!(rt; writer.taken.len(), count);
         assert!(rt; whole.starts_with(writer.taken.as_slice()));
     }
+    Ok(())
+}
+
+// The source has these octets, and then its end.
+fn expect_octets<S: Source>(
+    rt: &impl Abort,
+    alloc: Global,
+    source: &mut S,
+    octets: &Vec<u8>,
+) -> Result<(), Fail> {
+    let (read, failed) = drained(alloc, source)?;
+    assert_eq!(rt; read.as_slice(), octets.as_slice());
+    assert_eq!(rt; failed, 0);
+    assert_eq!(rt; source.read(&mut [0u8; 8]), Ok(0), "it stays at its end");
     Ok(())
 }
 
@@ -175,26 +214,63 @@ fn a_writer_loses_doubles_and_hides_nothing(rt: HostRuntime) -> Result<(), Fail>
 fn a_file_is_opened_at_its_first_use(rt: HostRuntime) -> Result<(), Fail> {
     let whole = octets(rt.alloc())?;
     let mut source = FileSource::new(&rt, "late.toml");
-    let mut buf = [0u8; 8];
-    assert_eq!(rt; source.read(&mut buf), Err(Failed), "it is not there");
+    assert_eq!(rt; source.fault(), None);
+    assert_eq!(rt; source.read(&mut [0u8; 8]), Err(Failed), "it is not there");
+    assert_eq!(rt; source.fault(), Some(ErrorKind::NotFound));
     let mut sink = WriterSink::new(fs::create(&rt, "late.toml")?);
     assert_eq!(rt; write_all(&mut sink, whole.as_slice()), Ok(()));
-    let (read, failed) = drained(rt.alloc(), &mut source)?;
-    assert_eq!(rt; read, whole);
-    assert_eq!(rt; failed, 0);
-    assert_eq!(rt; source.read(&mut buf), Ok(0));
-    let mut folder = FileSource::new(&rt, ".");
-    assert_eq!(rt;
-        folder.read(&mut buf),
-        Err(Failed),
-        "a folder has no octets"
-    );
-    assert_eq!(rt; folder.read(&mut buf), Err(Failed));
-    let mut read_only = WriterSink::new(fs::open(&rt, "late.toml")?);
-    assert_eq!(rt;
-        read_only.write(b"x"),
-        Err(Failed),
-        "it is open for reading"
-    );
+    expect_octets(&rt, rt.alloc(), &mut source, &whole)?;
+    assert_eq!(rt; source.fault(), Some(ErrorKind::NotFound), "it is kept");
+    let mut reader = ReaderSource::new(fs::open(&rt, "late.toml")?);
+    expect_octets(&rt, rt.alloc(), &mut reader, &whole)
+}
+
+#[test]
+fn a_folder_has_no_octets(rt: HostRuntime) -> Result<(), Fail> {
+    let mut by_path = FileSource::new(&rt, ".");
+    let mut opened = ReaderSource::new(fs::open(&rt, ".")?);
+    for _ in 0..2 {
+        assert_eq!(rt; by_path.read(&mut [0u8; 8]), Err(Failed));
+        assert_eq!(rt; by_path.fault(), Some(ErrorKind::IsADirectory));
+        assert_eq!(rt; opened.read(&mut [0u8; 8]), Err(Failed));
+        assert_eq!(rt; opened.fault(), Some(ErrorKind::IsADirectory));
+    }
+    Ok(())
+}
+
+#[test]
+fn a_pipe_gives_what_was_written_and_then_its_end(rt: HostRuntime) -> Result<(), Fail> {
+    let whole = octets(rt.alloc())?;
+    let (reader, writer) = io::pipe(&rt)?;
+    let mut sink = WriterSink::new(writer);
+    assert_eq!(rt; write_all(&mut sink, whole.as_slice()), Ok(()));
+    drop(sink);
+    expect_octets(&rt, rt.alloc(), &mut ReaderSource::new(reader), &whole)
+}
+
+#[test]
+fn a_pipe_that_the_other_side_closed_fails(rt: HostRuntime) -> Result<(), Fail> {
+    let (reader, writer) = io::pipe(&rt)?;
+    drop(reader);
+    let mut sink = WriterSink::new(writer);
+    assert_eq!(rt; sink.write(b"x"), Err(Failed));
+    assert_eq!(rt; sink.fault(), Some(ErrorKind::BrokenPipe));
+    Ok(())
+}
+
+#[test]
+fn a_device_that_is_full_fails(rt: HostRuntime) -> Result<(), Fail> {
+    let mut sink = WriterSink::new(File::options().write(true).open(&rt, "/dev/full")?);
+    assert_eq!(rt; sink.write(b"x"), Err(Failed));
+    assert_eq!(rt; sink.fault(), Some(ErrorKind::StorageFull));
+    Ok(())
+}
+
+#[test]
+fn a_file_that_is_open_for_reading_takes_nothing(rt: HostRuntime) -> Result<(), Fail> {
+    fs::write(&rt, "read.toml", "x")?;
+    let mut sink = WriterSink::new(fs::open(&rt, "read.toml")?);
+    assert_eq!(rt; sink.write(b"x"), Err(Failed));
+    assert!(rt; sink.fault().is_some(), "the system said why");
     Ok(())
 }
