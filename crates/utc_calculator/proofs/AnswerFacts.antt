@@ -2,7 +2,7 @@
 use Rattle.std.proofs.Common.{◌≡◌, inr, ℕ, List, Result, Ok, Err, MatchResult, IfErr, IsErrAnd, refl}
 use Rattle.line_filter.specs.declared.filter.Unfit.{Unfit}
 use Rattle.line_filter.specs.Progress.{IsUnfit}
-use Rattle.utc_calculator.specs.declared.cause.UtcCause.{UtcCause}
+use Rattle.utc_calculator.specs.declared.cause.UtcRefusal.{UtcRefusal}
 use Rattle.utc_calculator.specs.declared.results.Unwritten.{Unwritten}
 use Rattle.utc_calculator.specs.declared.results.Unwritten.TheVariants as unwritten
 use Rattle.utc_calculator.specs.declared.operation.Outcome.{Outcome}
@@ -15,7 +15,7 @@ unwritten_refused line outcome unwritten.Year has refuses = inr (inr (record { o
 unwritten_refused line outcome unwritten.NoMemory has refuses = tt
 
 -- an outcome that is not written refuses its line
-pub showing_refused : {T : Type 0} (line : List ℕ) (outcome : Outcome) (r : Result T Unwritten) (m : Result T (Unfit UtcCause)) → HasOutcome line outcome → IfErr r (IsUnwritten (RefusesShowing outcome))
+pub showing_refused : {T : Type 0} (line : List ℕ) (outcome : Outcome) (r : Result T Unwritten) (m : Result T (Unfit UtcRefusal)) → HasOutcome line outcome → IfErr r (IsUnwritten (RefusesShowing outcome))
     → MatchResult r (λ x. m ≡ Ok x) (λ u. IsErrAnd m (λ f. f ≡ fault_of u)) → IfErr m (IsUnfit calculator tt line)
 showing_refused line outcome (Ok x) m has refuses cases = rw cases tt
 showing_refused line outcome (Err u) (Ok x) has refuses cases = absurd cases

@@ -10,7 +10,7 @@ use Rattle.utc_text.specs.Civil.{IsInYears}
 use Rattle.utc_text.specs.Printing.{IsShown}
 use Rattle.utc_text.proofs.CivilLemmas.{in_years}
 use Rattle.utc_text.proofs.TextLaws.{absolute_one_text, length_one_text}
-use Rattle.utc_calculator.specs.declared.cause.UtcCause.{UtcCause}
+use Rattle.utc_calculator.specs.declared.cause.UtcRefusal.{UtcRefusal}
 use Rattle.utc_calculator.specs.declared.operation.Operation.{Operation}
 use Rattle.utc_calculator.specs.declared.operation.Operation.TheVariants as op
 use Rattle.utc_calculator.specs.declared.operation.Outcome.{Outcome}
@@ -118,7 +118,7 @@ line_outcome line p q h k =
     one_outcome h.operation p q h.yields (rw same at k.yields)
 
 -- no line that has an answer is refused
-pub not_both : (line text : List ℕ) (c : UtcCause) → Answers line text → Refuses line c → ⊥
+pub not_both : (line text : List ℕ) (c : UtcRefusal) → Answers line text → Refuses line c → ⊥
 not_both line text c answer (inl refused) = reading_right line answer.has.operation c answer.has.spelled refused
 not_both line text c answer (inr (inl refused)) =
     let same = Spells-unique line refused.operation answer.has.operation refused.spelled answer.has.spelled in

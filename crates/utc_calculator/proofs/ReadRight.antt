@@ -12,7 +12,7 @@ use Rattle.utc_text.proofs.TextLaws.{absolute_not_both, relative_not_both}
 use Rattle.utc_text.specs.Reading.{absolute_of, relative_of, moment_of, length_of, date_of, right_at, sign_at}
 use Rattle.utc_text.specs.Reading as reading
 use Rattle.utc_text.specs.Fields.{year_at, two_digits, days_at, digits_at}
-use Rattle.utc_calculator.specs.declared.cause.UtcCause.{UtcCause}
+use Rattle.utc_calculator.specs.declared.cause.UtcRefusal.{UtcRefusal}
 use Rattle.utc_calculator.specs.declared.operation.Operation.{Operation}
 use Rattle.utc_calculator.specs.declared.operation.Operation.TheVariants as op
 use Rattle.utc_calculator.specs.Operations.{Operand, Time, Number, Minutes, Octets, OperandKind, TimeKind, OctetsKind, kind_of, word_of, operands_of, Reads, ReadEach, IsOfTimestamp, Spells, IsNoTime, IsNextWrong, IsFirstWrong, RefusesFields, RefusesReading}
@@ -49,21 +49,21 @@ no_fault field s fault (inl h) wrong = absolute_not_both field s wrong.absolute 
 no_fault field s fault (inr h) wrong = relative_not_both field s wrong.relative h wrong.as_relative
 
 -- a field that is right as an operand is not wrong
-pub next_right : (x : Operand) (field : List ℕ) (fields : List (List ℕ)) (c : UtcCause) → Reads field x → IsNextWrong (kind_of x) (field ∷ fields) c → ⊥
-next_right x [] fields c h wrong = no_operand x h
-next_right (Time s) (octet ∷ octets) fields c h (fault, wrong, _) = no_fault (octet ∷ octets) s fault h wrong
-next_right (Number k) (octet ∷ octets) fields c h (never, _) = never k h
-next_right (Minutes t) (octet ∷ octets) fields c h (never, _) = never t h
-next_right (Octets read) (octet ∷ octets) fields c h (never, _) = never read h
+pub next_right : (x : Operand) (field line : List ℕ) (fields : List (List ℕ)) (c : UtcRefusal) → Reads field x → IsNextWrong (kind_of x) line (field ∷ fields) c → ⊥
+next_right x [] line fields c h wrong = no_operand x h
+next_right (Time s) (octet ∷ octets) line fields c h (fault, wrong, _) = no_fault (octet ∷ octets) s fault h wrong
+next_right (Number k) (octet ∷ octets) line fields c h (never, _) = never k h
+next_right (Minutes t) (octet ∷ octets) line fields c h (never, _) = never t h
+next_right (Octets read) (octet ∷ octets) line fields c h (never, _) = never read h
 
-pub all_right : (xs : List Operand) (fields : List (List ℕ)) (c : UtcCause) → ReadEach fields xs → IsFirstWrong (map kind_of xs) fields c → ⊥
-all_right [] [] c h wrong = wrong
-all_right [] (field ∷ fields) c h wrong = h
-all_right (x ∷ xs) [] c h wrong = h
-all_right (x ∷ xs) (field ∷ fields) c h (inl wrong) = next_right x field fields c h.0 wrong
-all_right (x ∷ xs) (field ∷ fields) c h (inr (y, rest, kind, (first, cut, read), wrong)) =
+pub all_right : (xs : List Operand) (line : List ℕ) (fields : List (List ℕ)) (c : UtcRefusal) → ReadEach fields xs → IsFirstWrong (map kind_of xs) line fields c → ⊥
+all_right [] line [] c h wrong = wrong
+all_right [] line (field ∷ fields) c h wrong = h
+all_right (x ∷ xs) line [] c h wrong = h
+all_right (x ∷ xs) line (field ∷ fields) c h (inl wrong) = next_right x field line fields c h.0 wrong
+all_right (x ∷ xs) line (field ∷ fields) c h (inr (y, rest, kind, (first, cut, read), wrong)) =
     let same : fields ≡ rest = cc in
-    all_right xs rest c (rw same at h.1) wrong
+    all_right xs line rest c (rw same at h.1) wrong
 
 -- the other operations begin with a time
 no_octets : (kinds : List OperandKind) → TimeKind ∷ kinds ≡ OctetsKind ∷ [] → ⊥
@@ -77,15 +77,15 @@ text_right (op.Text a) fields octets fault e h ranges read refused =
     octets_right a fault ranges (rw given at refused)
 text_right o fields octets fault e h ranges read refused = no_octets _ (same_kinds o (op.Text any) e)
 
-fields_right : (o : Operation) (fields : List (List ℕ)) (c : UtcCause) → ReadEach fields (operands_of o) → IsOfTimestamp o → RefusesFields (word_of o) fields c → ⊥
-fields_right o fields c h ranges (inl (unknown, _)) = unknown o refl
-fields_right o fields c h ranges (inr (inl (p, e, wrong))) = all_right (operands_of o) fields c h (rw (same_kinds p o e) at wrong)
-fields_right o fields c h ranges (inr (inr (octets, fault, e, read, refused, _))) = text_right o fields octets fault e h ranges read refused
+fields_right : (o : Operation) (line : List ℕ) (fields : List (List ℕ)) (c : UtcRefusal) → ReadEach fields (operands_of o) → IsOfTimestamp o → RefusesFields (word_of o) line fields c → ⊥
+fields_right o line fields c h ranges (inl (unknown, _)) = unknown o refl
+fields_right o line fields c h ranges (inr (inl (p, e, wrong))) = all_right (operands_of o) line fields c h (rw (same_kinds p o e) at wrong)
+fields_right o line fields c h ranges (inr (inr (octets, fault, e, read, refused, _))) = text_right o fields octets fault e h ranges read refused
 
 -- a line that asks for an operation is not refused in reading
-pub reading_right : (line : List ℕ) (o : Operation) (c : UtcCause) → Spells line o → RefusesReading line c → ⊥
+pub reading_right : (line : List ℕ) (o : Operation) (c : UtcRefusal) → Spells line o → RefusesReading line c → ⊥
 reading_right line o c (fields, cut, read, ranges) (word, others, cut', refused) =
     let both : word ∷ others ≡ word_of o ∷ fields = sym cut' ∙ cut in
     let words : word ≡ word_of o = cc in
     let same : others ≡ fields = cc in
-    fields_right o fields c read ranges (rw (words, same) at refused)
+    fields_right o line fields c read ranges (rw (words, same) at refused)

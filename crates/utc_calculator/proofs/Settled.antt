@@ -22,8 +22,9 @@ use Rattle.utc_text.specs.Civil.{IsCivil, civil_count, local_count}
 use Rattle.utc_text.specs.Texts.{IsPrintable}
 use Rattle.utc_text.specs.FirstWrong.{IsAbsoluteFault, IsRelativeFault}
 use Rattle.utc_text.proofs.TextLaws.{moment_text, length_has_text}
-use Rattle.utc_calculator.specs.declared.cause.UtcCause.{UtcCause}
+use Rattle.utc_calculator.specs.declared.cause.UtcRefusal.{UtcRefusal}
 use Rattle.utc_calculator.specs.declared.cause.UtcCause.TheVariants as cause
+use Rattle.utc_calculator.specs.Places.{refused_whole}
 use Rattle.utc_calculator.specs.declared.operation.Outcome.{Outcome}
 use Rattle.utc_calculator.specs.declared.operation.Outcome.TheVariants as out
 use Rattle.utc_calculator.specs.Operations.{IsNoTime, is_relative_form, RefusesReading}
@@ -87,13 +88,13 @@ last_written x y z a b false e f h k l = inr (inr l)
 -- a line whose operation results in something is answered, or refused in printing
 pub printed_or_not : (line : List ℕ) (outcome : Outcome) (b : Bool) → HasOutcome line outcome
     → MatchBool b ((text : List ℕ) × Shows outcome text) (RefusesShowing outcome)
-    → ((text : List ℕ) × Answers line text) ⊎ ((c : UtcCause) × Refuses line c)
+    → ((text : List ℕ) × Answers line text) ⊎ ((c : UtcRefusal) × Refuses line c)
 printed_or_not line outcome true has shown = inl (shown.0, record { outcome = outcome; has = has; shown = shown.1 })
 printed_or_not line outcome false has refused =
-    inr (cause.Print print.YearRange, inr (inr (record { outcome = outcome; has = has; refused = refused; is = refl })))
+    inr (refused_whole (cause.Print print.YearRange), inr (inr (record { outcome = outcome; has = has; refused = refused; is = refl })))
 
-pub refused_before : (line : List ℕ) (c : UtcCause) → RefusesReading line c ⊎ RefusesComputing line c
-    → ((text : List ℕ) × Answers line text) ⊎ ((d : UtcCause) × Refuses line d)
+pub refused_before : (line : List ℕ) (c : UtcRefusal) → RefusesReading line c ⊎ RefusesComputing line c
+    → ((text : List ℕ) × Answers line text) ⊎ ((d : UtcRefusal) × Refuses line d)
 refused_before line c (inl refused) = inr (c, inl refused)
 refused_before line c (inr refused) = inr (c, inr (inl refused))
 
@@ -109,16 +110,16 @@ exclusive = record {
   one_end = λ state c d h k. absurd h;
 }
 
-refused_nowhere : (octets more : List ℕ) (n : ℕ) (c : UtcCause) (text : List ℕ)
-    → ((m : ℕ) (d : UtcCause) (other : List ℕ) → RefusesAt calculator tt (lines_of octets) m d other → ⊥)
+refused_nowhere : (octets more : List ℕ) (n : ℕ) (c : UtcRefusal) (text : List ℕ)
+    → ((m : ℕ) (d : UtcRefusal) (other : List ℕ) → RefusesAt calculator tt (lines_of octets) m d other → ⊥)
     → Filters calculator tt octets more (Err (stop.Refused n c)) text → ⊥
 refused_nowhere octets more n c text none (inl at) = none n c text at
 refused_nowhere octets more n c text none (inr behind) = behind.0.refused
 
 -- a calculation that nothing refuses and nothing fails comes to its end, or misses memory
-pub comes_to_end : (octets : List ℕ) (left before now : Option (List ℕ)) (result : Result (Unit {0}) (Stop UtcCause)) (i i' o o' : ℕ)
+pub comes_to_end : (octets : List ℕ) (left before now : Option (List ℕ)) (result : Result (Unit {0}) (Stop UtcRefusal)) (i i' o o' : ℕ)
     → HasFiltered calculator tt octets left result before now
-    → ((n : ℕ) (c : UtcCause) (text : List ℕ) → RefusesAt calculator tt (lines_of octets) n c text → ⊥)
+    → ((n : ℕ) (c : UtcRefusal) (text : List ℕ) → RefusesAt calculator tt (lines_of octets) n c text → ⊥)
     → StopCause stop.Read i i' result → StopCause stop.Write o o' result → (Rose i i' → ⊥) → (Rose o o' → ⊥)
     → (result ≡ Ok tt) ⊎ (result ≡ Err stop.NoMemory)
 comes_to_end octets left before now (Ok done) i i' o o' h none read write calm_in calm_out = inl refl

@@ -1,3 +1,4 @@
+pub mod Places
 pub mod Operations
 pub mod Results
 pub mod Answers

@@ -13,6 +13,8 @@ use Rattle.utc_text.specs.Texts.{SpellsAbsolute, SpellsRelative}
 use Rattle.utc_text.specs.FirstWrong.{IsAbsoluteFault, IsRelativeFault}
 use Rattle.utc_calculator.specs.declared.cause.UtcCause.{UtcCause}
 use Rattle.utc_calculator.specs.declared.cause.UtcCause.TheVariants as cause
+use Rattle.utc_calculator.specs.declared.cause.UtcRefusal.{UtcRefusal}
+use Rattle.utc_calculator.specs.Places.{refused_here, refused_whole}
 use Rattle.utc_calculator.specs.declared.operation.Operation.{Operation}
 use Rattle.utc_calculator.specs.declared.operation.Operation.TheVariants as op
 
@@ -100,50 +102,51 @@ pub record IsNoTime (text : List ℕ) (fault : TextFault) : Type 0 where
   pub as_relative : IsRelativeFault text relative
   pub told : fault ≡ (if is_relative_form text then relative else absolute)
 
--- why a field with octets is not right as an operand of that kind
-abbrev pub IsWrong : OperandKind → List ℕ → UtcCause → Type 0
-IsWrong TimeKind field c = (fault : TextFault) × IsNoTime field fault × (c ≡ cause.Text fault)
-IsWrong NumberKind field c = ((k : ℤ) → Reads field (Number k) → ⊥) × (c ≡ cause.Number)
-IsWrong MinutesKind field c = ((t : ℤ) → Reads field (Minutes t) → ⊥) × (c ≡ cause.Number)
-IsWrong OctetsKind field c = ((octets : List ℕ) → Reads field (Octets octets) → ⊥) × (c ≡ cause.Hex)
+-- why a field with octets is not right as an operand of that kind, where its causes are told of so
+abbrev pub IsWrong : OperandKind → List ℕ → (UtcCause → UtcRefusal) → UtcRefusal → Type 0
+IsWrong TimeKind field told r = (fault : TextFault) × IsNoTime field fault × (r ≡ told (cause.Text fault))
+IsWrong NumberKind field told r = ((k : ℤ) → Reads field (Number k) → ⊥) × (r ≡ told cause.Number)
+IsWrong MinutesKind field told r = ((t : ℤ) → Reads field (Minutes t) → ⊥) × (r ≡ told cause.Number)
+IsWrong OctetsKind field told r = ((octets : List ℕ) → Reads field (Octets octets) → ⊥) × (r ≡ told cause.Hex)
 
--- Why the next of the fields is not right as an operand of that kind. An empty field is missing, wherever it stands.
-abbrev pub IsNextWrong : OperandKind → List (List ℕ) → UtcCause → Type 0
-IsNextWrong kind [] c = c ≡ cause.Missing
-IsNextWrong kind ([] ∷ fields) c = c ≡ cause.Missing
-IsNextWrong kind ((octet ∷ octets) ∷ fields) c = IsWrong kind (octet ∷ octets) c
+-- Why the next of the fields that are left of a line is not right as an operand of that kind. An empty field is missing, wherever it stands.
+abbrev pub IsNextWrong : OperandKind → List ℕ → List (List ℕ) → UtcRefusal → Type 0
+IsNextWrong kind line [] r = r ≡ refused_here line [] cause.Missing
+IsNextWrong kind line ([] ∷ fields) r = r ≡ refused_here line ([] ∷ fields) cause.Missing
+IsNextWrong kind line ((octet ∷ octets) ∷ fields) r = IsWrong kind (octet ∷ octets) (refused_here line ((octet ∷ octets) ∷ fields)) r
 
--- why fields are left over
-abbrev pub IsLeftOver : List (List ℕ) → UtcCause → Type 0
-IsLeftOver [] c = ⊥
-IsLeftOver ([] ∷ fields) c = c ≡ cause.Missing
-IsLeftOver ((octet ∷ octets) ∷ fields) c = c ≡ cause.Extra
+-- why fields are left over of a line
+abbrev pub IsLeftOver : List ℕ → List (List ℕ) → UtcRefusal → Type 0
+IsLeftOver line [] r = ⊥
+IsLeftOver line ([] ∷ fields) r = r ≡ refused_here line ([] ∷ fields) cause.Missing
+IsLeftOver line ((octet ∷ octets) ∷ fields) r = r ≡ refused_here line ((octet ∷ octets) ∷ fields) cause.Extra
 
 -- the first of the fields is right as the operand
 abbrev pub HasOperand : List (List ℕ) → Operand → List (List ℕ) → Type 0
 HasOperand fields x rest = (field : List ℕ) × (fields ≡ field ∷ rest) × Reads field x
 
--- why fields are not right as operands of those kinds, one each in order: the cause of the first that is not
-abbrev pub IsFirstWrong : List OperandKind → List (List ℕ) → UtcCause → Type 0
-IsFirstWrong [] fields c = IsLeftOver fields c
-IsFirstWrong (kind ∷ kinds) fields c = IsNextWrong kind fields c ⊎ ((x : Operand) × (rest : List (List ℕ)) × (kind_of x ≡ kind) × HasOperand fields x rest × IsFirstWrong kinds rest c)
+-- why the fields that are left of a line are not right as operands of those kinds, one each in order: the first that is not is refused
+abbrev pub IsFirstWrong : List OperandKind → List ℕ → List (List ℕ) → UtcRefusal → Type 0
+IsFirstWrong [] line fields r = IsLeftOver line fields r
+IsFirstWrong (kind ∷ kinds) line fields r = IsNextWrong kind line fields r ⊎ ((x : Operand) × (rest : List (List ℕ)) × (kind_of x ≡ kind) × HasOperand fields x rest × IsFirstWrong kinds line rest r)
 
 -- no operation has the word
 abbrev pub IsUnknown : List ℕ → Type 0
 IsUnknown word = (o : Operation) → word_of o ≢ word
 
 -- the fields behind an operation's word are not right as its operands
-abbrev pub HasWrongOperand : List ℕ → List (List ℕ) → UtcCause → Type 0
-HasWrongOperand word fields c = (o : Operation) × (word_of o ≡ word) × IsFirstWrong (map kind_of (operands_of o)) fields c
+abbrev pub HasWrongOperand : List ℕ → List ℕ → List (List ℕ) → UtcRefusal → Type 0
+HasWrongOperand word line fields r = (o : Operation) × (word_of o ≡ word) × IsFirstWrong (map kind_of (operands_of o)) line fields r
 
 -- the octets behind the word `text` are no timestamp
-abbrev pub HasWrongOctets : List ℕ → List (List ℕ) → UtcCause → Type 0
-HasWrongOctets word fields c = (octets : List ℕ) × (fault : BytesFault) × (word ≡ codes "text") × ReadEach fields (Octets octets ∷ []) × RefusesOctets octets fault × (c ≡ cause.Bytes fault)
+abbrev pub HasWrongOctets : List ℕ → List ℕ → List (List ℕ) → UtcRefusal → Type 0
+HasWrongOctets word line fields r =
+    (octets : List ℕ) × (fault : BytesFault) × (word ≡ codes "text") × ReadEach fields (Octets octets ∷ []) × RefusesOctets octets fault × (r ≡ refused_here line fields (cause.Bytes fault))
 
 -- why a word and the fields behind it ask for no operation
-abbrev pub RefusesFields : List ℕ → List (List ℕ) → UtcCause → Type 0
-RefusesFields word fields c = (IsUnknown word × (c ≡ cause.Word)) ⊎ (HasWrongOperand word fields c ⊎ HasWrongOctets word fields c)
+abbrev pub RefusesFields : List ℕ → List ℕ → List (List ℕ) → UtcRefusal → Type 0
+RefusesFields word line fields r = (IsUnknown word × (r ≡ refused_whole cause.Word)) ⊎ (HasWrongOperand word line fields r ⊎ HasWrongOctets word line fields r)
 
 -- why a line asks for no operation
-abbrev pub RefusesReading : List ℕ → UtcCause → Type 0
-RefusesReading line c = (word : List ℕ) × (fields : List (List ℕ)) × (fields_of line ≡ word ∷ fields) × RefusesFields word fields c
+abbrev pub RefusesReading : List ℕ → UtcRefusal → Type 0
+RefusesReading line r = (word : List ℕ) × (fields : List (List ℕ)) × (fields_of line ≡ word ∷ fields) × RefusesFields word line fields r

@@ -2,8 +2,9 @@
 use Rattle.line_filter.specs.declared.filter.Unfit.{Unfit}
 use Rattle.line_filter.specs.declared.filter.Unfit.TheVariants as unfit
 use Rattle.utc_text.specs.declared.fault.PrintFault.TheVariants as print
-use Rattle.utc_calculator.specs.declared.cause.UtcCause.{UtcCause}
 use Rattle.utc_calculator.specs.declared.cause.UtcCause.TheVariants as cause
+use Rattle.utc_calculator.specs.declared.cause.UtcRefusal.{UtcRefusal}
+use Rattle.utc_calculator.specs.Places.{refused_whole}
 use Rattle.utc_calculator.specs.declared.results.Unwritten.{Unwritten}
 use Rattle.utc_calculator.specs.declared.results.Unwritten.TheVariants as unwritten
 
@@ -13,6 +14,6 @@ IsUnwritten P unwritten.Year = P
 IsUnwritten P unwritten.NoMemory = Unit {0}
 
 -- an outcome that is not written, as the fault of an answer
-abbrev pub fault_of : Unwritten → Unfit UtcCause
-fault_of unwritten.Year = unfit.Refused (cause.Print print.YearRange)
+abbrev pub fault_of : Unwritten → Unfit UtcRefusal
+fault_of unwritten.Year = unfit.Refused (refused_whole (cause.Print print.YearRange))
 fault_of unwritten.NoMemory = unfit.NoMemory

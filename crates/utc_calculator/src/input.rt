@@ -7,10 +7,11 @@ ghost use Rattle.line_filter.specs.Filters.{HasFiltered, IsValid, RefusesAt};
 ghost use Rattle.line_filter.specs.Progress.{StopCause};
 ghost use Rattle.utc_calculator.specs.Answers.{calculator};
 
-use crate::UtcCause;
 use crate::line::answer;
+use crate::{UtcCause, UtcRefusal};
 use dts_base::{Sink, Source};
 use line_filter::{LineFilter, Stop, Unfit, filter_lines};
+use line_reader::MAX_LINE;
 use std::alloc::Global;
 
 /// The calculator as a filter of lines: it keeps nothing from one line to the next.
@@ -18,7 +19,7 @@ use std::alloc::Global;
 pub struct Calculator;
 
 impl LineFilter for Calculator {
-    type Cause = UtcCause;
+    type Cause = UtcRefusal;
 
     ghost State = { Unit {0} };
 
@@ -32,21 +33,21 @@ impl LineFilter for Calculator {
         _before: u64,
         line: &[u8],
         text: &mut Vec<u8>,
-    ) -> Result<(), Unfit<UtcCause>> {
+    ) -> Result<(), Unfit<UtcRefusal>> {
         *text = answer(alloc, line)?;
         Ok(())
     }
 
-    fn end(&self, _before: u64) -> Result<(), UtcCause> {
+    fn end(&self, _before: u64) -> Result<(), UtcRefusal> {
         Ok(())
     }
 
-    fn too_many() -> UtcCause {
-        UtcCause::Lines
+    fn too_many() -> UtcRefusal {
+        UtcRefusal::whole(UtcCause::Lines)
     }
 
-    fn too_long() -> UtcCause {
-        UtcCause::Long
+    fn too_long() -> UtcRefusal {
+        UtcRefusal::at(MAX_LINE + 1, UtcCause::Long)
     }
 }
 
@@ -57,7 +58,7 @@ pub fn calculate<I: Source, O: Sink>(
     alloc: Global,
     input: &mut I,
     output: &mut O,
-) -> Result<(), Stop<UtcCause>>
+) -> Result<(), Stop<UtcRefusal>>
     // What the output holds afterwards is what it held before, and then the answers to the lines: to all of them, or to those before the first refused one.
     ensures answers { (octets : List ℕ) → I.left input.old ≡ Some octets →
         HasFiltered calculator tt octets (I.left input.new) result (O.written output.old) (O.written output.new) }
@@ -70,7 +71,7 @@ pub fn calculate<I: Source, O: Sink>(
     ensures complete { (octets text : List ℕ) → I.left input.old ≡ Some octets → IsValid calculator tt octets text →
         (Rose (I.faults input.old) (I.faults input.new) → ⊥) → (Rose (O.faults output.old) (O.faults output.new) → ⊥) → (result ≡ Ok tt) ⊎ (result ≡ Err Stop.NoMemory) }
     ensures unrefused { (octets : List ℕ) → I.left input.old ≡ Some octets →
-        ((n : ℕ) (c : UtcCause) (text : List ℕ) → RefusesAt calculator tt (lines_of octets) n c text → ⊥) →
+        ((n : ℕ) (r : UtcRefusal) (text : List ℕ) → RefusesAt calculator tt (lines_of octets) n r text → ⊥) →
         (Rose (I.faults input.old) (I.faults input.new) → ⊥) → (Rose (O.faults output.old) (O.faults output.new) → ⊥) → (result ≡ Ok tt) ⊎ (result ≡ Err Stop.NoMemory) }
 {
     filter_lines(alloc, &mut Calculator, input, output)

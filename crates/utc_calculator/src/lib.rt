@@ -10,7 +10,7 @@ mod operation;
 mod reading;
 mod results;
 
-pub use cause::UtcCause;
+pub use cause::{UtcCause, UtcRefusal};
 pub use input::{Calculator, calculate};
 pub use laws::{
     every_line_is_answered_or_refused, no_line_is_both, one_answer, one_cause,

@@ -12,6 +12,10 @@ fn text(field: TextField, offset: u32) -> UtcCause {
     UtcCause::Text(TextFault { field, offset })
 }
 
+fn at(column: u32, cause: UtcCause) -> UtcRefusal {
+    UtcRefusal { column, cause }
+}
+
 #[test]
 fn each_operation_is_answered(rt: HostRuntime) -> Result<(), Fail> {
     let cases: [(&str, &str); 22] = [
@@ -87,113 +91,139 @@ fn each_operation_is_answered(rt: HostRuntime) -> Result<(), Fail> {
 }
 
 #[test]
-fn the_first_cause_is_named(rt: HostRuntime) -> Result<(), Fail> {
-    let cases: [(&str, UtcCause); 47] = [
-        ("", UtcCause::Word),
-        (" ", UtcCause::Word),
-        (" abs 00-00:00:01", UtcCause::Word),
-        ("#", UtcCause::Word),
-        ("Add", UtcCause::Word),
-        ("adds x", UtcCause::Word),
-        ("abs\t00-00:00:01", UtcCause::Word),
-        ("abs\u{e9} x", UtcCause::Word),
-        ("foo  x", UtcCause::Word),
-        ("add", UtcCause::Missing),
-        ("add ", UtcCause::Missing),
-        ("add 00-00:00:01", UtcCause::Missing),
-        ("add 00-00:00:01 ", UtcCause::Missing),
-        ("add  00-00:00:01", UtcCause::Missing),
-        ("abs 00-00:00:01 ", UtcCause::Missing),
-        ("abs 00-00:00:01  x", UtcCause::Missing),
-        ("abs 00-00:00:01 x", UtcCause::Extra),
-        ("abs 00-00:00:01 x ", UtcCause::Extra),
-        ("mul 00-00:00:01 1 2", UtcCause::Extra),
-        ("mul 00-00:00:01 +1", UtcCause::Number),
-        ("mul 00-00:00:01 01", UtcCause::Number),
-        ("mul 00-00:00:01 -0", UtcCause::Number),
-        ("mul 00-00:00:01 -01", UtcCause::Number),
-        ("mul 00-00:00:01 -", UtcCause::Number),
-        ("mul 00-00:00:01 1x", UtcCause::Number),
-        ("mul 00-00:00:01 2147483648", UtcCause::Number),
-        ("mul 00-00:00:01 -2147483649", UtcCause::Number),
-        ("mul 00-00:00:01 99999999999999999999", UtcCause::Number),
-        ("tdf 1970-01-01-00:00:00 32768", UtcCause::Number),
-        ("tdf 1970-01-01-00:00:00 -32769", UtcCause::Number),
-        ("text 0", UtcCause::Hex),
-        ("text 00408113d21db20100000000000000100", UtcCause::Hex),
-        ("text 0040 8113d21db2010000000000000010", UtcCause::Hex),
-        ("text g0408113d21db2010000000000000010", UtcCause::Hex),
+fn the_first_cause_is_named_at_its_column(rt: HostRuntime) -> Result<(), Fail> {
+    let cases: [(&str, u32, UtcCause); 47] = [
+        ("", 1, UtcCause::Word),
+        (" ", 1, UtcCause::Word),
+        (" abs 00-00:00:01", 1, UtcCause::Word),
+        ("#", 1, UtcCause::Word),
+        ("Add", 1, UtcCause::Word),
+        ("adds x", 1, UtcCause::Word),
+        ("abs\t00-00:00:01", 1, UtcCause::Word),
+        ("abs\u{e9} x", 1, UtcCause::Word),
+        ("foo  x", 1, UtcCause::Word),
+        ("add", 4, UtcCause::Missing),
+        ("add ", 5, UtcCause::Missing),
+        ("add 00-00:00:01", 16, UtcCause::Missing),
+        ("add 00-00:00:01 ", 17, UtcCause::Missing),
+        ("add  00-00:00:01", 5, UtcCause::Missing),
+        ("abs 00-00:00:01 ", 17, UtcCause::Missing),
+        ("abs 00-00:00:01  x", 17, UtcCause::Missing),
+        ("abs 00-00:00:01 x", 17, UtcCause::Extra),
+        ("abs 00-00:00:01 x ", 17, UtcCause::Extra),
+        ("mul 00-00:00:01 1 2", 19, UtcCause::Extra),
+        ("mul 00-00:00:01 +1", 17, UtcCause::Number),
+        ("mul 00-00:00:01 01", 17, UtcCause::Number),
+        ("mul 00-00:00:01 -0", 17, UtcCause::Number),
+        ("mul 00-00:00:01 -01", 17, UtcCause::Number),
+        ("mul 00-00:00:01 -", 17, UtcCause::Number),
+        ("mul 00-00:00:01 1x", 17, UtcCause::Number),
+        ("mul 00-00:00:01 2147483648", 17, UtcCause::Number),
+        ("mul 00-00:00:01 -2147483649", 17, UtcCause::Number),
+        ("mul 00-00:00:01 99999999999999999999", 17, UtcCause::Number),
+        ("tdf 1970-01-01-00:00:00 32768", 25, UtcCause::Number),
+        ("tdf 1970-01-01-00:00:00 -32769", 25, UtcCause::Number),
+        ("text 0", 6, UtcCause::Hex),
+        ("text 00408113d21db20100000000000000100", 6, UtcCause::Hex),
+        ("text 0040 8113d21db2010000000000000010", 6, UtcCause::Hex),
+        ("text g0408113d21db2010000000000000010", 6, UtcCause::Hex),
         (
             "text 00000000000000000000000000000030",
+            6,
             UtcCause::Bytes(BytesFault::Version { found: 3 }),
         ),
         (
             "text 00000000000000000000000000000120",
+            6,
             UtcCause::Bytes(BytesFault::Tdf { found: 1 }),
         ),
         (
             "sub 00-00:00:01 1970-01-01-00:00:00",
+            1,
             UtcCause::Routine(UtcFault::Kinds),
         ),
         (
             "abs -10675199-02:48:05.4775808",
+            1,
             UtcCause::Routine(UtcFault::Overflow),
         ),
         (
             "bound 00-00:00:13I2 00-00:00:05I5",
+            1,
             UtcCause::Routine(UtcFault::OutOfOrder),
         ),
         (
             "point 1970-01-01-00:00:00",
+            1,
             UtcCause::Routine(UtcFault::Unspecified),
         ),
         (
             "tdf 1970-01-01-00:00:00 1440",
+            1,
             UtcCause::Routine(UtcFault::TdfRange),
         ),
         (
             "add 9999-12-31-23:59:59 00-00:00:01",
+            1,
             UtcCause::Print(PrintFault::YearRange),
         ),
         // of two causes in one line the one that is read first, then computing, then printing
-        ("mul 1970-01-01-00:00:00 01", UtcCause::Number),
-        ("text 00000000000000000000000000000030 x", UtcCause::Extra),
-        ("text 0 x", UtcCause::Hex),
+        ("mul 1970-01-01-00:00:00 01", 25, UtcCause::Number),
+        (
+            "text 00000000000000000000000000000030 x",
+            39,
+            UtcCause::Extra,
+        ),
+        ("text 0 x", 6, UtcCause::Hex),
         (
             "tdf 9999-12-31-23:59:59 1440",
+            1,
             UtcCause::Routine(UtcFault::TdfRange),
         ),
         (
             "tdf 9999-12-31-23:59:59 1439",
+            1,
             UtcCause::Print(PrintFault::YearRange),
         ),
     ];
-    for (line, cause) in cases {
+    for (line, column, cause) in cases {
         let got = answer(rt.alloc(), line.as_bytes());
-        assert_eq!(rt; got.err(), Some(Unfit::Refused(cause)), "{line}");
+        let want = Some(Unfit::Refused(at(column, cause)));
+        assert_eq!(rt; got.err(), want, "{line}");
     }
     Ok(())
 }
 
 #[test]
 fn a_text_that_is_no_time_has_the_fault_of_its_form(rt: HostRuntime) -> Result<(), Fail> {
-    let cases: [(&str, UtcCause); 9] = [
+    let cases: [(&str, u32, TextField, u32); 12] = [
         // a relative form, by its sign or its fifth octet
-        ("abs -x", text(TextField::Days, 1)),
-        ("abs -000-x", text(TextField::Hour, 4)),
-        ("abs x", text(TextField::Days, 0)),
-        ("abs 1234", text(TextField::Hour, 4)),
-        ("abs 12345", text(TextField::Hour, 5)),
+        ("abs -x", 6, TextField::Days, 1),
+        ("abs -000-x", 9, TextField::Hour, 4),
+        ("abs x", 5, TextField::Days, 0),
+        ("abs 1234", 9, TextField::Hour, 4),
+        ("abs 12345", 10, TextField::Hour, 5),
         // an absolute form
-        ("abs 1970-13-01-00:00:00", text(TextField::Month, 4)),
-        ("abs 0000-00:00:60", text(TextField::Year, 0)),
+        ("abs 1970-13-01-00:00:00", 9, TextField::Month, 4),
+        ("abs 0000-00:00:60", 5, TextField::Year, 0),
         // before a later field is looked at
-        ("abs x y", text(TextField::Days, 0)),
-        ("add 1970-13-01-00:00:00", text(TextField::Month, 4)),
+        ("abs x y", 5, TextField::Days, 0),
+        ("add 1970-13-01-00:00:00", 9, TextField::Month, 4),
+        // a date and a clock as two words
+        ("add 1970-01-01 00:00:00", 15, TextField::Hour, 10),
+        // in the second operand
+        ("add 00-00:00:01 00-00:00:60", 25, TextField::Second, 8),
+        (
+            "sub 1970-01-01-00:00:00 1970-01-01-00:00:00Z",
+            44,
+            TextField::Tail,
+            19,
+        ),
     ];
-    for (line, cause) in cases {
+    for (line, column, field, offset) in cases {
         let got = answer(rt.alloc(), line.as_bytes());
-        assert_eq!(rt; got.err(), Some(Unfit::Refused(cause)), "{line}");
+        let want = Some(Unfit::Refused(at(column, text(field, offset))));
+        assert_eq!(rt; got.err(), want, "{line}");
     }
     Ok(())
 }
@@ -207,7 +237,7 @@ fn operations_are_read_and_computed(rt: HostRuntime) -> Result<(), Fail> {
         parse(b"mul 00-00:00:01I0 7"),
         Ok(Operation::Mul(second, 7))
     );
-    assert_eq!(rt; parse(b"mul"), Err(UtcCause::Missing));
+    assert_eq!(rt; parse(b"mul"), Err(at(4, UtcCause::Missing)));
     assert_eq!(rt;
         compute(Operation::Mid(second, second)),
         Ok(Outcome::Order(Order4::EqualTo))
@@ -220,7 +250,7 @@ fn expect(
     rt: &impl Abort,
     alloc: Global,
     lines: &[u8],
-    ends: Result<(), Stop<UtcCause>>,
+    ends: Result<(), Stop<UtcRefusal>>,
     want: &[u8],
 ) -> Result<(), Fail> {
     let mut input = MemorySource::new(alloc, lines, &[])?;
@@ -252,14 +282,14 @@ fn lines_are_answered_up_to_the_first_that_is_refused(rt: HostRuntime) -> Result
         &rt,
         rt.alloc(),
         b"mid 00-00:00:01 00-00:00:01\n\nmid 00-00:00:01 00-00:00:01\n",
-        stop(2, UtcCause::Word),
+        stop(2, at(1, UtcCause::Word)),
         b"equalTo\n",
     )?;
     expect(
         &rt,
         rt.alloc(),
         b"mid 00-00:00:01 00-00:00:01\r\n",
-        stop(1, text(TextField::Tail, 11)),
+        stop(1, at(28, text(TextField::Tail, 11))),
         b"",
     )
 }
@@ -267,11 +297,11 @@ fn lines_are_answered_up_to_the_first_that_is_refused(rt: HostRuntime) -> Result
 #[test]
 fn a_line_has_at_most_16384_octets(rt: HostRuntime) -> Result<(), Fail> {
     for (length, feed, cause) in [
-        (16_384, true, text(TextField::Days, 0)),
-        (16_384, false, text(TextField::Days, 0)),
-        (16_385, true, UtcCause::Long),
-        (16_385, false, UtcCause::Long),
-        (200_000, true, UtcCause::Long),
+        (16_384, true, at(5, text(TextField::Days, 0))),
+        (16_384, false, at(5, text(TextField::Days, 0))),
+        (16_385, true, at(16_385, UtcCause::Long)),
+        (16_385, false, at(16_385, UtcCause::Long)),
+        (200_000, true, at(16_385, UtcCause::Long)),
     ] {
         let mut lines = b"mid 00-00:00:01 00-00:00:01\nabs ".to_vec(rt.alloc())?;
         for _ in 4..length {
@@ -293,8 +323,8 @@ fn a_line_has_at_most_16384_octets(rt: HostRuntime) -> Result<(), Fail> {
 
 #[test]
 fn too_many_and_too_long_lines_have_their_causes(rt: HostRuntime) {
-    assert_eq!(rt; Calculator::too_many(), UtcCause::Lines);
-    assert_eq!(rt; Calculator::too_long(), UtcCause::Long);
+    assert_eq!(rt; Calculator::too_many(), at(1, UtcCause::Lines));
+    assert_eq!(rt; Calculator::too_long(), at(16_385, UtcCause::Long));
 }
 
 #[test]
@@ -320,32 +350,99 @@ fn faults_are_told_and_what_was_written_stands(rt: HostRuntime) -> Result<(), Fa
 }
 
 #[test]
-fn faults_have_their_texts(rt: HostRuntime) -> Result<(), Fail> {
-    let cases: [(UtcCause, &str); 11] = [
-        (UtcCause::Long, "line 7: more than 16384 octets"),
-        (UtcCause::Lines, "line 7: more than 4294967295 lines"),
-        (UtcCause::Word, "line 7: no such operation"),
-        (UtcCause::Missing, "line 7: an operand is missing"),
-        (UtcCause::Extra, "line 7: an operand too many"),
-        (UtcCause::Number, "line 7: no such number"),
-        (UtcCause::Hex, "line 7: not 32 hex digits"),
-        (text(TextField::Month, 4), "line 7: wrong Month at octet 4"),
+fn causes_have_their_texts(rt: HostRuntime) -> Result<(), Fail> {
+    let cases: [(UtcCause, &str); 16] = [
+        (UtcCause::Long, "a line has at most 16384 octets"),
+        (UtcCause::Lines, "an input has at most 4294967295 lines"),
+        (
+            UtcCause::Word,
+            "no operation stands here; a line begins with add, sub, abs, mul, span, bound, tdf, interval, mid, point, bytes or text, and none is blank or a comment",
+        ),
+        (
+            UtcCause::Missing,
+            "an operand is missing here; operands are joined by single spaces",
+        ),
+        (UtcCause::Extra, "the line should end before this operand"),
+        (
+            UtcCause::Number,
+            "no such number; one in decimal without leading zeros should stand here, behind mul from -2147483648 to 2147483647, behind tdf minutes from -1439 to 1439",
+        ),
+        (
+            UtcCause::Hex,
+            "these are no octets of a time; 32 hex digits should stand here",
+        ),
+        (
+            text(TextField::Hour, 10),
+            "no time is written so; `-` and an hour from 00 to 23 should stand here. A moment is one word, as 1970-01-01-00:00:00, and so is a length of time, as 00-00:00:01",
+        ),
         (
             UtcCause::Bytes(BytesFault::Version { found: 3 }),
-            "line 7: version 3 is neither 1 nor 2",
+            "no time has these octets: version 3 is neither 1 nor 2; that of a moment is 1, and that of a length of time 2",
+        ),
+        (
+            UtcCause::Bytes(BytesFault::Tdf { found: 1440 }),
+            "no time has these octets: a time differential factor of 1440 minutes; a moment has -1439 to 1439, and a length of time 0",
+        ),
+        (
+            UtcCause::Routine(UtcFault::Kinds),
+            "no result: the kinds of the operands do not allow it; add takes one moment at most, sub no moment from a length of time, abs and mul a length, tdf a moment, and the others two of one kind",
         ),
         (
             UtcCause::Routine(UtcFault::Overflow),
-            "line 7: the time of the result is out of range",
+            "no result: the time of the result is out of range; a time is a number of 64 bits, in units of 100 ns",
+        ),
+        (
+            UtcCause::Routine(UtcFault::OutOfOrder),
+            "no result: the first operand begins after the second ends; bound takes the earlier one first",
+        ),
+        (
+            UtcCause::Routine(UtcFault::Unspecified),
+            "no result: the inaccuracy of the operand is unspecified; point takes a time with `I` and seconds",
+        ),
+        (
+            UtcCause::Routine(UtcFault::TdfRange),
+            "no result: the time differential factor is a day or more; it is from -1439 to 1439 minutes",
         ),
         (
             UtcCause::Print(PrintFault::YearRange),
-            "line 7: a year outside 1582 to 9999",
+            "the result can't be written: a year outside 1582 to 9999",
         ),
     ];
     for (cause, want) in cases {
-        let stop = Stop::Refused { line: 7, cause };
-        assert_eq!(rt; stop.to_string(rt.alloc())?.as_str(), want);
+        assert_eq!(rt; cause.to_string(rt.alloc())?.as_str(), want);
+    }
+    let refusal = at(5, UtcCause::Extra);
+    assert_eq!(rt;
+        refusal.to_string(rt.alloc())?.as_str(),
+        "column 5: the line should end before this operand"
+    );
+    Ok(())
+}
+
+#[test]
+fn each_field_of_a_time_has_its_text(rt: HostRuntime) -> Result<(), Fail> {
+    let cases: [(TextField, &str); 13] = [
+        (TextField::Sign, "`-` or days"),
+        (TextField::Days, "days of 1 to 8 digits, 10675199 at most,"),
+        (TextField::Year, "a year from 1582 to 9999"),
+        (TextField::Month, "`-` and a month from 01 to 12"),
+        (TextField::Day, "`-` and a day of the month, as 01,"),
+        (TextField::Hour, "`-` and an hour from 00 to 23"),
+        (TextField::Minute, "`:` and a minute from 00 to 59"),
+        (TextField::Second, "`:` and a second from 00 to 59"),
+        (TextField::Fraction, "`.` and at most 7 digits"),
+        (TextField::TdfHour, "`+` or `-` and hours from 00 to 23"),
+        (TextField::TdfMinute, "`:` and minutes from 00 to 59"),
+        (
+            TextField::Inaccuracy,
+            "`I` and `-----`, `inf` or at most 28147497.6710654 seconds",
+        ),
+        (TextField::Tail, "the end of the time"),
+    ];
+    for (field, right) in cases {
+        let want = format!(in rt.alloc(); "no time is written so; {right} should stand here. ")?;
+        let got = text(field, 0).to_string(rt.alloc())?;
+        assert!(rt; got.as_str().starts_with(want.as_str()), "{right}");
     }
     Ok(())
 }

@@ -7,4 +7,4 @@ use Rattle.utc_calculator.proofs.reading.one_time.Goals as goal
 pub returns-in_err-end-clause-err : goal.returns-in_err-end-clause-err
 returns-in_err-end-clause-err c =
     let p = err_from_is_err_and c.from_residual-in_err-end.result c.from_residual-in_err-end.ensures.1 in
-    rw (p.1, p.2) (behind (Time c.in_ok-a.a) [] c.args.fields.left c.time.new.fields.left c.in_err-end.field-0.0 c.in_ok-a.ensures.ok c.in_err-end.ensures.err)
+    rw (p.1, p.2) (behind (Time c.in_ok-a.a) [] c.args.fields.line c.time.new.fields.line c.args.fields.left c.time.new.fields.left c.in_err-end.field-0.0 c.time.ensures.line c.in_ok-a.ensures.ok c.in_err-end.ensures.err)
