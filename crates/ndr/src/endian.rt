@@ -25,8 +25,8 @@ pub enum Endian {
 }
 
 impl Endian {
-    // The number that the first octets are.
-    pub(crate) fn number(self, octets: &[u8], size: usize) -> u64
+    /// The number that the first octets are, of the size 1, 2, 4 or 8.
+    pub fn number(self, octets: &[u8], size: usize) -> u64
         requires size { IsSize size }
         requires room { size ≤ length octets.now }
         ensures value { result ≡ number_in self size octets.now }
@@ -38,8 +38,8 @@ impl Endian {
         }
     }
 
-    // Writes the octets of a number at a place.
-    pub(crate) fn put(self, out: &mut [u8], place: usize, number: u64, size: usize)
+    /// Writes the octets of a number of this size, 1, 2, 4 or 8, at a place.
+    pub fn put(self, out: &mut [u8], place: usize, number: u64, size: usize)
         requires size { IsSize size }
         requires room { place + size ≤ length out.old }
         requires fits { number < 256 ^ size }

@@ -1,6 +1,6 @@
 ghost use Rattle.std.specs.Prelude.{◌≡◌};
 
-use dts_base::NoMemory;
+use dts_base::{NoMemory, Refused};
 use std::alloc::AllocError;
 use thiserror::Error;
 
@@ -38,5 +38,46 @@ impl From<NoMemory> for WriteFault {
 
     fn from(_: NoMemory) -> Self {
         WriteFault::NoMemory
+    }
+}
+
+/// Why octets are not decoded.
+#[derive(Clone, Copy, Debug, PartialEq, Eq, Error)]
+pub enum DecodeFault {
+    /// The first field that is short or not right.
+    #[error("{0}")]
+    Wrong(Refused),
+    /// There is no memory.
+    #[error("out of memory")]
+    NoMemory,
+}
+
+impl From<Refused> for DecodeFault {
+    ghost use Rattle.ndr.specs.declared.fault.DecodeFault.TheVariants as fault;
+
+    ghost from_gives = { λ refused f. f ≡ fault.Wrong refused };
+
+    fn from(refused: Refused) -> Self {
+        DecodeFault::Wrong(refused)
+    }
+}
+
+impl From<AllocError> for DecodeFault {
+    ghost use Rattle.ndr.specs.declared.fault.DecodeFault.TheVariants as fault;
+
+    ghost from_gives = { λ _ f. f ≡ fault.NoMemory };
+
+    fn from(_: AllocError) -> Self {
+        DecodeFault::NoMemory
+    }
+}
+
+impl From<NoMemory> for DecodeFault {
+    ghost use Rattle.ndr.specs.declared.fault.DecodeFault.TheVariants as fault;
+
+    ghost from_gives = { λ _ f. f ≡ fault.NoMemory };
+
+    fn from(_: NoMemory) -> Self {
+        DecodeFault::NoMemory
     }
 }

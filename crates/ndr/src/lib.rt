@@ -14,7 +14,7 @@ mod reader;
 mod writer;
 
 pub use endian::{Endian, FIRST_PRINTED, LAST_PRINTED, MAX_STRING, MAX_STUB};
-pub use fault::WriteFault;
+pub use fault::{DecodeFault, WriteFault};
 pub use laws::{one_refusal, written_reads_back};
 pub use reader::Reader;
 pub use writer::Writer;

@@ -1,0 +1,6 @@
+use Rattle.rpc_pdu.specs.Bodies.{context_part}
+use Rattle.rpc_pdu.specs.Parsing.{ReadSoFar}
+use Rattle.rpc_pdu.proofs.decoding.read_contexts.Given as goal
+
+abbrev pub invariant-loop-done : goal.invariant-loop-done
+invariant-loop-done l = ReadSoFar (context_part l.fn.endian) l.fn.count l._done l.items l.fn.cursor l.cursor
