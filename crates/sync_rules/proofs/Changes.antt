@@ -24,7 +24,7 @@ pub data Change (h : History) (e : Event) (next : ClockRecord) : Type 0 where
   adoption : (required n : ℕ) (i : ℤ × ℤ) → is_live h e ≡ true → e ≡ event.Adopt (event_osc e) required
       → outcome (rates_of h) (answers_of h) required (event_osc e) ≡ Adopted n i → next ≡ changed_record (rates_of h) (current_record h) (event_osc e) i → Change h e next
 
-published-append : (rec : ClockRecord) (xs ys : List Action) → published rec (xs ++ ys) ≡ published (published rec xs) ys
+pub published-append : (rec : ClockRecord) (xs ys : List Action) → published rec (xs ++ ys) ≡ published (published rec xs) ys
 published-append rec [] ys = refl
 published-append rec (action.Publish next ∷ xs) ys = published-append next xs ys
 published-append rec (action.Log note ∷ xs) ys = published-append rec xs ys
@@ -32,11 +32,11 @@ published-append rec (action.Send osc peer bytes ∷ xs) ys = published-append r
 published-append rec (action.Close osc peer ∷ xs) ys = published-append rec xs ys
 
 -- notes publish nothing
-notes_publish_none : (e : Event) (rec : ClockRecord) (answers : List Answer) → published rec (map (λ a. noted e (note.False (source.Tag a.tag))) answers) ≡ rec
+pub notes_publish_none : (e : Event) (rec : ClockRecord) (answers : List Answer) → published rec (map (λ a. noted e (note.False (source.Tag a.tag))) answers) ≡ rec
 notes_publish_none e rec [] = refl
 notes_publish_none e rec (a ∷ answers) = notes_publish_none e rec answers
 
-changes_publish : (e : Event) (rates : Rates) (rec : ClockRecord) (i : ℤ × ℤ) → published rec (changes e rates rec i) ≡ changed_record rates rec (event_osc e) i
+pub changes_publish : (e : Event) (rates : Rates) (rec : ClockRecord) (i : ℤ × ℤ) → published rec (changes e rates rec i) ≡ changed_record rates rec (event_osc e) i
 changes_publish e rates rec i =
     elim (steps_to rates rec (event_osc e) i) as (λ b. published rec (cond b (noted e (note.Step (rec.step + 1) (line rates rec (event_osc e)) (middle_of i)) ∷ []) []
     ++ action.Publish (changed_record rates rec (event_osc e) i) ∷ []) ≡ changed_record rates rec (event_osc e) i) [ true ↦ refl | false ↦ refl ]

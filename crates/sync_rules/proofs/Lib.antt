@@ -12,3 +12,4 @@ pub mod Honest
 pub mod Exact
 pub mod Rows
 pub mod RoundRows
+pub mod StepRows
