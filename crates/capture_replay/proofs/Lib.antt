@@ -1,5 +1,10 @@
+pub mod Adopting
 pub mod Exclusive
 pub mod LineFacts
+pub mod RoundBounds
+pub mod RoundLaws
 pub mod SafeLogs
 pub mod Stepping
 pub mod Taking
+pub mod Totality
+pub mod Writing

@@ -41,7 +41,7 @@ unread_unfit replay lines state text (unfit.Refused f) stands placed is =
 unread_unfit replay lines state text unfit.NoMemory stands placed is = tt
 
 -- a line says a start exactly where its first word does
-says_kind : (current : Option ℕ) (fields : List (List ℕ)) (l : Line) → Makes (line_forms current) fields l
+pub says_kind : (current : Option ℕ) (fields : List (List ℕ)) (l : Line) → Makes (line_forms current) fields l
     → (IsStart l × ((rest : List (List ℕ)) × (fields ≡ codes "start" ∷ rest))) ⊎ (IsEvent l × ((rest : List (List ℕ)) → fields ≡ codes "start" ∷ rest → ⊥))
 says_kind current [] l m = absurd m
 says_kind current (field ∷ fields) l (inl m) = inl (start_says current fields l (inl (refl, m.1)), (fields, ap (λ f. f ∷ fields) m.0))
@@ -101,11 +101,11 @@ blank_takes replay lines state text stands placed spells = (
   record { rates = stands.rates; node = stands.node; number = omega (arith, stands.number) },
 )
 
-begun_log : (settings : Settings) (start : Start) → log_of (Begun settings start) ≡ flat_map log_text (given_at (Begun settings start))
+pub begun_log : (settings : Settings) (start : Start) → log_of (Begun settings start) ≡ flat_map log_text (given_at (Begun settings start))
 unfolding log_of
 begun_log settings start = refl
 
-followed_log : (history : History) (e : Event) → log_of (followed_by history e) ≡ log_of history ++ flat_map log_text (actions_of history e)
+pub followed_log : (history : History) (e : Event) → log_of (followed_by history e) ≡ log_of history ++ flat_map log_text (actions_of history e)
 unfolding log_of
 followed_log history e = refl
 

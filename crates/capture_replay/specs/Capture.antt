@@ -44,10 +44,13 @@ abbrev pub IsMisplaced : Option History → List ℕ → Type 0
 IsMisplaced None text = (is_blank text ≡ false) × (SaysStart text → ⊥)
 IsMisplaced (Some history) text = SaysStart text
 
--- the events that are replayed so far: ticks, and reads of the clock
+-- the events that are replayed so far: ticks, reads of the clock, and those of direct rounds
 abbrev pub is_built : Event → Bool
 is_built (event.Tick osc word) = true
 is_built (event.Read osc) = true
+is_built (event.Query osc tag) = true
+is_built (event.Source osc tag interval) = true
+is_built (event.Adopt osc required) = true
 is_built _ = false
 
 -- What a line makes of a history: a blank one leaves it, a start line begins it, and an event follows on it.

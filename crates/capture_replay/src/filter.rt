@@ -76,7 +76,7 @@ impl Replay {
         ensures memory { IfErr result (λ e. e ≡ Unfit.NoMemory) }
         ensures log { OnOk result (log.new.items ≡ log.old.items ++ flat_map log_text (given_at (Begun (record { rates = self.old.rates }) (record { osc = osc; value = value; first = first })))) }
     {
-        let (node, action) = Node::start(self.rates, osc, value, first);
+        let (node, action) = Node::start(alloc, self.rates, osc, value, first);
         put(alloc, log, &action)?;
         self.node = Some(node);
         Ok(())
@@ -122,50 +122,27 @@ fn take_event(
     ensures log { OnOk result ((history : History) → StandsFor node.old history → log.new.items ≡ log.old.items ++ flat_map log_text (actions_of history event)) }
     ensures unbuilt { IfErr result (λ e. (e ≡ Unfit.NoMemory) ⊎ ((e ≡ Unfit.Refused (at_first cause.Word)) × (is_built event ≡ false))) }
 {
-    match event {
-        Event::Tick { osc, .. } => take_tick(alloc, node, osc, log),
-        Event::Read { osc } => take_read(alloc, node, osc, log),
-        _ => Err(Unfit::Refused(CaptureFault::at_first(LineCause::Word))),
+    if !is_built(&event) {
+        return Err(Unfit::Refused(CaptureFault::at_first(LineCause::Word)));
     }
+    let Ok(actions) = node.step(alloc, event) else {
+        return Err(Unfit::NoMemory);
+    };
+    put_all(alloc, log, &actions)
 }
 
-// A node takes a tick.
-fn take_tick(
-    alloc: Global,
-    node: &mut Node,
-    osc: u64,
-    log: &mut Vec<u8>,
-) -> Result<(), Unfit<CaptureFault>>
-    requires stands { (history : History) × StandsFor node.old history }
-    requires osc { osc ≤ GREATEST_OSC }
-    requires number { node.old.current.number < u64.MAX }
-    ensures number { node.new.current.number ≤ node.old.current.number + 1 }
-    ensures stands { (history : History) (word : ℕ) → StandsFor node.old history → StandsFor node.new (followed_by history (event.Tick osc word)) }
-    ensures log { OnOk result ((history : History) (word : ℕ) → StandsFor node.old history → log.new.items ≡ log.old.items ++ flat_map log_text (actions_of history (event.Tick osc word))) }
-    ensures memory { IfErr result (λ e. e ≡ Unfit.NoMemory) }
+// Whether events of this kind are replayed.
+fn is_built(event: &Event) -> bool
+    ensures { result ≡ is_built event.now }
 {
-    match node.take_tick(osc) {
-        Some(action) => put(alloc, log, &action),
-        None => Ok(()),
-    }
-}
-
-// A node takes a read of its clock.
-fn take_read(
-    alloc: Global,
-    node: &mut Node,
-    osc: u64,
-    log: &mut Vec<u8>,
-) -> Result<(), Unfit<CaptureFault>>
-    requires stands { (history : History) × StandsFor node.old history }
-    requires osc { osc ≤ GREATEST_OSC }
-    ensures number { node.new.current ≡ node.old.current }
-    ensures stands { (history : History) → StandsFor node.old history → StandsFor node.new (followed_by history (event.Read osc)) }
-    ensures log { OnOk result ((history : History) → StandsFor node.old history → log.new.items ≡ log.old.items ++ flat_map log_text (actions_of history (event.Read osc))) }
-    ensures memory { IfErr result (λ e. e ≡ Unfit.NoMemory) }
-{
-    let action = node.take_read(osc);
-    put(alloc, log, &action)
+    matches!(
+        event,
+        Event::Tick { .. }
+            | Event::Read { .. }
+            | Event::Query { .. }
+            | Event::Source { .. }
+            | Event::Adopt { .. }
+    )
 }
 
 impl LineFilter for Replay {
@@ -231,6 +208,17 @@ fn put(alloc: Global, log: &mut Vec<u8>, action: &Action) -> Result<(), Unfit<Ca
     ensures memory { IfErr result (λ e. e ≡ Unfit.NoMemory) }
 {
     append_action(alloc, log, action).map_err(|_| Unfit::NoMemory)
+}
+
+// Puts the texts of actions at the end of the log, in order.
+fn put_all(alloc: Global, log: &mut Vec<u8>, actions: &[Action]) -> Result<(), Unfit<CaptureFault>>
+    ensures text { OnOk result (log.new.items ≡ log.old.items ++ flat_map log_text actions.now) }
+    ensures memory { IfErr result (λ e. e ≡ Unfit.NoMemory) }
+{
+    for action in actions {
+        put(alloc, log, action)?;
+    }
+    Ok(())
 }
 
 // Whether the first word of the line is `start`.

@@ -13,7 +13,8 @@ use std::alloc::Global;
 
 /// Replays a capture: reads it from the input, and writes the log of its history to the output, the text of each event
 /// as one piece and in bounded memory, until the input ends or a line is refused. A line has at most 16,384 octets, and
-/// a capture at most 4,294,967,295 lines. So far ticks and reads of the clock are replayed; any other event is refused.
+/// a capture at most 4,294,967,295 lines. So far ticks, direct rounds and reads of the clock are replayed; any other event
+/// is refused.
 pub fn replay<I: Source, O: Sink>(
     alloc: Global,
     rates: Rates,

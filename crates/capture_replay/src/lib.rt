@@ -7,11 +7,16 @@ mod filter;
 mod input;
 mod laws;
 mod node;
+mod notes;
+mod round;
 
 pub use fault::CaptureFault;
 pub use filter::Replay;
 pub use input::replay;
-pub use laws::{every_log_is_safe, one_log_of_a_capture};
+pub use laws::{
+    every_history_has_a_capture, every_line_is_taken_or_refused, every_log_is_safe,
+    one_log_of_a_capture,
+};
 pub use node::Node;
 
 #[cfg(test)]

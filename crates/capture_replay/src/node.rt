@@ -1,46 +1,67 @@
-ghost use Rattle.std.specs.Prelude.{◌≡◌, ◌⊎◌, ℕ, ◌+◌, ◌<◌, ◌≤◌, [], ◌∷◌, Option};
+ghost use Rattle.std.specs.Prelude.{◌≡◌, ℕ, ◌+◌, ◌<◌, ◌≤◌, true, IfOk, OnOk, OnErr, MatchOption};
 ghost use Rattle.slew_clock.specs.declared.limits.TheConstants.{GREATEST_OSC};
 ghost use Rattle.slew_clock.specs.Started.{started};
 ghost use Rattle.slew_clock.specs.Record.{IsSound};
 ghost use Rattle.slew_clock.specs.Line.{line};
-ghost use Rattle.slew_clock.specs.Reading.{inaccuracy_of};
-ghost use Rattle.slew_clock.specs.Change.{renewed_record};
+ghost use Rattle.slew_clock.specs.Change.{IsInRange};
 ghost use Rattle.dts_capture.specs.declared.event.Event.TheVariants as event;
-ghost use Rattle.sync_rules.specs.History.{History, Begun, Lane};
-ghost use Rattle.sync_rules.specs.Live.{floor_at};
-ghost use Rattle.sync_rules.specs.Ranges.{StartsInRange};
-ghost use Rattle.sync_rules.specs.Rules.{actions_of, followed_by, publication};
+ghost use Rattle.intersection.specs.Adoption.{ends_of};
+ghost use Rattle.sync_rules.specs.History.{History, Begun, published};
+ghost use Rattle.sync_rules.specs.Rounds.{Adopted};
+ghost use Rattle.sync_rules.specs.Ranges.{IsTime, IsEventInRange, StartsInRange};
+ghost use Rattle.capture_replay.specs.Notes.{noted_at};
 
-use dts_base::Interval;
-use dts_capture::{Action, Note, NoteKind};
-use slew_clock::{ClockRecord, Rates, read_at, renewed, start};
+use crate::notes::{note, single};
+use crate::round::{DirectOutcome, DirectRound};
+use dts_base::{Interval, NoMemory};
+use dts_capture::{Action, Event, NoteKind};
+use slew_clock::{ClockRecord, Rates, Reading, changed, read_at, renewed, start};
+use std::alloc::Global;
 
-/// The state of a node: the rates and the current record of its clock, and the oscillator readings of the last live
-/// tick and of the last read that was served.
+/// The state of a node: the rates and the current record of its clock, the oscillator readings of the last live event
+/// of its sync part and of the last read that was served, and the direct round that is under way.
 #[derive(Debug, Drop)]
 pub struct Node {
     rates: Rates,
     current: ClockRecord,
     sync_osc: u64,
     lane_osc: u64,
+    round: DirectRound,
 }
 
-// A note on an event without a peer.
-fn note(osc: u64, kind: NoteKind) -> Action
-    ensures { result ≡ Action.Log (record { osc = osc; peer = Option.None; kind = kind }) }
+// What is noted of a reading.
+fn reading_note(reading: &Reading) -> NoteKind
+    ensures { result ≡ NoteKind.Reading reading.now.value reading.now.inaccuracy reading.now.step reading.now.number }
 {
-    Action::Log(Note {
-        osc,
-        peer: None,
-        kind,
-    })
+    NoteKind::Reading {
+        value: reading.value,
+        inaccuracy: reading.inaccuracy,
+        step: reading.step,
+        number: reading.number,
+    }
+}
+
+// The note on an interval that is adopted of so many.
+fn adopted_note(osc: u64, n: u32, interval: Interval) -> Action
+    ensures { result ≡ noted_at osc (NoteKind.Adopted n interval.lo interval.hi) }
+{
+    let Interval { lo, hi } = interval;
+    note(osc, NoteKind::Adopted { n, lo, hi })
 }
 
 impl Node {
-    ghost use Rattle.capture_replay.specs.Standing.{StandsFor, ticked, given};
+    ghost use Rattle.capture_replay.specs.Capture.{is_built};
+    ghost use Rattle.capture_replay.specs.Rounds.{AreCarriable, IsAdoptable, outcome_kept};
+    ghost use Rattle.capture_replay.specs.Standing.{StandsFor, IsStep, IsKept, concluded};
 
     /// A node that starts, and the publication of its first record.
-    pub fn start(rates: Rates, osc: u64, value: i64, first: Option<Interval>) -> (Node, Action)
+    pub fn start(
+        alloc: Global,
+        rates: Rates,
+        osc: u64,
+        value: i64,
+        first: Option<Interval>,
+    ) -> (Node, Action)
         requires { StartsInRange (record { osc = osc; value = value; first = first }) }
         ensures stands { StandsFor result.0 (Begun (record { rates = rates }) (record { osc = osc; value = value; first = first })) }
         ensures number { result.0.current.number ≡ 0 }
@@ -52,6 +73,7 @@ impl Node {
             current,
             sync_osc: osc,
             lane_osc: 0,
+            round: DirectRound::new(alloc),
         };
         (node, Action::Publish { rec: current })
     }
@@ -63,72 +85,217 @@ impl Node {
         self.current.number
     }
 
-    /// Takes a read of the clock at an oscillator reading, and gives the action of the rules.
-    pub fn take_read(&mut self, osc: u64) -> Action
+    /// Takes an event, and gives the actions of the rules, in order. After NoMemory the node is as it was.
+    pub fn step(&mut self, alloc: Global, event: Event) -> Result<Vec<Action>, NoMemory>
         requires stands { (history : History) × StandsFor self.old history }
-        requires osc { osc ≤ GREATEST_OSC }
-        ensures action { (history : History) → StandsFor self.old history → actions_of history (event.Read osc) ≡ result ∷ [] }
-        ensures stands { (history : History) → StandsFor self.old history → StandsFor self.new (followed_by history (event.Read osc)) }
-        ensures number { self.new.current ≡ self.old.current }
+        requires range { IsEventInRange event }
+        requires built { is_built event ≡ true }
+        requires number { self.old.current.number < u64.MAX }
+        ensures step { IfOk result (λ actions. IsStep self.old self.new event actions.items) }
+        ensures kept { OnErr result (IsKept self.old self.new) }
+        ensures number { self.new.current.number ≤ self.old.current.number + 1 }
     {
-        let kind = self.read(osc);
-        note(osc, kind)
-    }
-
-    // Reads the clock, unless the oscillator went back.
-    fn read(&mut self, osc: u64) -> NoteKind
-        requires sound { IsSound self.old.rates self.old.current }
-        requires osc { osc ≤ GREATEST_OSC }
-        ensures live { floor_at (Lane 0) self.old.lane_osc self.old.current ≤ osc → (self.new ≡ record self.old { lane_osc = osc })
-            × (result ≡ NoteKind.Reading (line self.old.rates self.old.current osc) (inaccuracy_of self.old.rates self.old.current osc) self.old.current.step self.old.current.number) }
-        ensures regressed { osc < floor_at (Lane 0) self.old.lane_osc self.old.current → (self.new ≡ self.old)
-            × (result ≡ NoteKind.Regressed (floor_at (Lane 0) self.old.lane_osc self.old.current)) }
-        ensures record_stays { self.new.current ≡ self.old.current }
-    {
-        let floor = self.lane_osc.max(self.current.born);
-        match read_at(&self.rates, &self.current, osc) {
-            Ok(reading) if floor <= osc => {
-                self.lane_osc = osc;
-                NoteKind::Reading {
-                    value: reading.value,
-                    inaccuracy: reading.inaccuracy,
-                    step: reading.step,
-                    number: reading.number,
-                }
-            }
-            _ => NoteKind::Regressed { floor },
+        match event {
+            Event::Tick { osc, .. } => self.take_tick(alloc, osc),
+            Event::Read { osc } => self.take_read(alloc, osc),
+            Event::Query { osc, tag } => self.take_query(alloc, osc, tag),
+            Event::Source { osc, tag, interval } => self.take_source(alloc, osc, tag, interval),
+            Event::Adopt { osc, required } => self.take_adopt(alloc, osc, required),
+            _ => unreachable!(),
         }
     }
 
-    /// Takes a tick at an oscillator reading, and gives the action of the rules, where there is one.
-    pub fn take_tick(&mut self, osc: u64) -> Option<Action>
+    // Takes a read of the clock at an oscillator reading.
+    fn take_read(&mut self, alloc: Global, osc: u64) -> Result<Vec<Action>, NoMemory>
         requires stands { (history : History) × StandsFor self.old history }
         requires osc { osc ≤ GREATEST_OSC }
-        requires number { self.old.current.number < u64.MAX }
-        ensures actions { (history : History) (word : ℕ) → StandsFor self.old history → actions_of history (event.Tick osc word) ≡ given result }
-        ensures stands { (history : History) (word : ℕ) → StandsFor self.old history → StandsFor self.new (followed_by history (event.Tick osc word)) }
-        ensures number { self.new.current.number ≤ self.old.current.number + 1 }
+        ensures step { IfOk result (λ actions. IsStep self.old self.new (event.Read osc) actions.items) }
+        ensures kept { OnErr result (self.new ≡ self.old) }
+        ensures number { self.new.current ≡ self.old.current }
+    {
+        let floor = self.lane_osc.max(self.current.born);
+        if osc < floor {
+            return single(alloc, note(osc, NoteKind::Regressed { floor }));
+        }
+        let Ok(reading) = read_at(&self.rates, &self.current, osc) else {
+            unreachable!()
+        };
+        let actions = single(alloc, note(osc, reading_note(&reading)))?;
+        self.lane_osc = osc;
+        Ok(actions)
+    }
+
+    // The note on an event of the sync part at which the oscillator went back, where it did.
+    fn regressed(&self, osc: u64) -> Option<Action>
+        ensures { MatchOption result (self.now.sync_osc ≤ osc) (λ action. (osc < self.now.sync_osc) × (action ≡ noted_at osc (NoteKind.Regressed self.now.sync_osc))) }
     {
         if osc < self.sync_osc {
             let floor = self.sync_osc;
             return Some(note(osc, NoteKind::Regressed { floor }));
         }
-        self.renew(osc)
+        None
     }
 
-    // Renews the clock where that is due, and publishes the record.
-    fn renew(&mut self, osc: u64) -> Option<Action>
+    // Takes a tick at an oscillator reading: renews the clock where that is due, and publishes the record.
+    fn take_tick(&mut self, alloc: Global, osc: u64) -> Result<Vec<Action>, NoMemory>
+        requires stands { (history : History) × StandsFor self.old history }
+        requires osc { osc ≤ GREATEST_OSC }
+        requires number { self.old.current.number < u64.MAX }
+        ensures step { IfOk result (λ actions. (word : ℕ) → IsStep self.old self.new (event.Tick osc word) actions.items) }
+        ensures kept { OnErr result (self.new ≡ self.old) }
+        ensures number { self.new.current.number ≤ self.old.current.number + 1 }
+    {
+        if let Some(back) = self.regressed(osc) {
+            return single(alloc, back);
+        }
+        let Some(rec) = renewed(&self.rates, &self.current, osc) else {
+            self.sync_osc = osc;
+            return Ok(Vec::new(alloc));
+        };
+        let actions = single(alloc, Action::Publish { rec })?;
+        self.sync_osc = osc;
+        self.current = rec;
+        Ok(actions)
+    }
+
+    // Takes the asking of a tag of a direct round at an oscillator reading.
+    fn take_query(&mut self, alloc: Global, osc: u64, tag: u32) -> Result<Vec<Action>, NoMemory>
+        requires osc { osc ≤ GREATEST_OSC }
+        ensures step { IfOk result (λ actions. IsStep self.old self.new (event.Query osc tag) actions.items) }
+        ensures kept { OnErr result (IsKept self.old self.new) }
+        ensures number { self.new.current ≡ self.old.current }
+    {
+        if let Some(back) = self.regressed(osc) {
+            return single(alloc, back);
+        }
+        let actions = self.round.take_query(alloc, osc, tag)?;
+        self.sync_osc = osc;
+        Ok(actions)
+    }
+
+    // Takes the answer to a tag of a direct round at an oscillator reading.
+    fn take_source(
+        &mut self,
+        alloc: Global,
+        osc: u64,
+        tag: u32,
+        interval: Interval,
+    ) -> Result<Vec<Action>, NoMemory>
+        requires osc { osc ≤ GREATEST_OSC }
+        requires ends { IsTime interval.lo × IsTime interval.hi }
+        ensures step { IfOk result (λ actions. IsStep self.old self.new (event.Source osc tag interval) actions.items) }
+        ensures kept { OnErr result (IsKept self.old self.new) }
+        ensures number { self.new.current ≡ self.old.current }
+    {
+        if let Some(back) = self.regressed(osc) {
+            return single(alloc, back);
+        }
+        let actions = self.round.take_source(alloc, osc, tag, interval)?;
+        self.sync_osc = osc;
+        Ok(actions)
+    }
+
+    // Takes the end of a direct round at an oscillator reading, where so many answers are required.
+    fn take_adopt(
+        &mut self,
+        alloc: Global,
+        osc: u64,
+        required: u32,
+    ) -> Result<Vec<Action>, NoMemory>
+        requires stands { (history : History) × StandsFor self.old history }
+        requires osc { osc ≤ GREATEST_OSC }
+        requires number { self.old.current.number < u64.MAX }
+        ensures step { IfOk result (λ actions. IsStep self.old self.new (event.Adopt osc required) actions.items) }
+        ensures kept { OnErr result (self.new ≡ self.old) }
+        ensures number { self.new.current.number ≤ self.old.current.number + 1 }
+    {
+        if let Some(back) = self.regressed(osc) {
+            return single(alloc, back);
+        }
+        let outcome = self.round.outcome(alloc, &self.rates, required, osc)?;
+        let actions = self.conclude(alloc, osc, outcome)?;
+        self.round.clear();
+        self.sync_osc = osc;
+        Ok(actions)
+    }
+
+    // Gives what comes of a round, and changes the clock where an interval is adopted.
+    fn conclude(
+        &mut self,
+        alloc: Global,
+        osc: u64,
+        outcome: DirectOutcome,
+    ) -> Result<Vec<Action>, NoMemory>
         requires sound { IsSound self.old.rates self.old.current }
         requires born { self.old.current.born ≤ osc }
         requires osc { osc ≤ GREATEST_OSC }
         requires number { self.old.current.number < u64.MAX }
-        ensures state { self.new ≡ ticked self.old osc (renewed_record self.old.rates self.old.current osc) }
-        ensures published { given result ≡ publication (renewed_record self.old.rates self.old.current osc) }
+        requires adoptable { IsAdoptable outcome }
+        requires carriable { AreCarriable osc self.old.round }
+        ensures state { IfOk result (λ actions. self.new ≡ record self.old { current = published self.old.current actions.items }) }
+        ensures actions { IfOk result (λ actions. actions.items ≡ concluded self.old osc (outcome_kept outcome)) }
+        ensures kept { OnErr result (self.new ≡ self.old) }
         ensures number { self.new.current.number ≤ self.old.current.number + 1 }
     {
-        self.sync_osc = osc;
-        let rec = renewed(&self.rates, &self.current, osc)?;
-        self.current = rec;
-        Some(Action::Publish { rec })
+        match outcome {
+            DirectOutcome::Short { answered, required } => {
+                single(alloc, note(osc, NoteKind::Short { answered, required }))
+            }
+            DirectOutcome::Split { n } => single(alloc, note(osc, NoteKind::Split { n })),
+            DirectOutcome::Adopted { n, interval } => self.adopt(alloc, osc, n, interval),
+        }
+    }
+
+    // Anchors the clock to an interval that so many answers gave, or steps to it.
+    fn adopt(
+        &mut self,
+        alloc: Global,
+        osc: u64,
+        n: u32,
+        interval: Interval,
+    ) -> Result<Vec<Action>, NoMemory>
+        requires sound { IsSound self.old.rates self.old.current }
+        requires born { self.old.current.born ≤ osc }
+        requires osc { osc ≤ GREATEST_OSC }
+        requires number { self.old.current.number < u64.MAX }
+        requires range { IsInRange (ends_of interval) }
+        requires carriable { AreCarriable osc self.old.round }
+        ensures kept { OnErr result (self.new ≡ self.old) }
+        ensures state { IfOk result (λ actions. self.new ≡ record self.old { current = published self.old.current actions.items }) }
+        ensures actions { IfOk result (λ actions. actions.items ≡ concluded self.old osc (Adopted n (ends_of interval))) }
+        ensures number { self.new.current.number ≤ self.old.current.number + 1 }
+    {
+        let Ok(next) = changed(&self.rates, &self.current, osc, interval) else {
+            unreachable!()
+        };
+        let mut actions = single(alloc, adopted_note(osc, n, interval))?;
+        self.round
+            .note_false(&self.rates, osc, &interval, &mut actions)?;
+        if next.step != self.current.step {
+            actions.push(self.step_note(osc, &next))?;
+        }
+        actions.push(Action::Publish { rec: next })?;
+        self.current = next;
+        Ok(actions)
+    }
+
+    // The note on a step to this record.
+    fn step_note(&self, osc: u64, next: &ClockRecord) -> Action
+        requires sound { IsSound self.now.rates self.now.current }
+        requires born { self.now.current.born ≤ osc }
+        requires osc { osc ≤ GREATEST_OSC }
+        ensures { result ≡ noted_at osc (NoteKind.Step next.now.step (line self.now.rates self.now.current osc) next.now.a.value) }
+    {
+        let Ok(reading) = read_at(&self.rates, &self.current, osc) else {
+            unreachable!()
+        };
+        note(
+            osc,
+            NoteKind::Step {
+                step: next.step,
+                old: reading.value,
+                new: next.a.value,
+            },
+        )
     }
 }

@@ -1,26 +1,26 @@
-use Rattle.std.proofs.Common.{◌∷◌, [], sym, ap, ◌∙◌, subst, arith}
+use Rattle.std.proofs.Common.{◌∷◌, [], refl, sym, ap, ◌∙◌, subst, arith}
 use Rattle.dts_capture.specs.declared.event.Event.TheVariants as event
-use Rattle.sync_rules.specs.Rules.{followed_by}
-use Rattle.capture_replay.specs.Standing.{StandsFor}
-use Rattle.capture_replay.proofs.Stepping.{sound_node, born_node, tick_gives, tick_stands, regressed_tick, regressed_stands}
+use Rattle.capture_replay.specs.Standing.{IsStep}
+use Rattle.capture_replay.proofs.Stepping.{sound_node, born_node, if_ok, back_step, tick_renews, tick_passes}
 use Rattle.capture_replay.proofs.node.Node.take_tick.Goals as goal
 
-pub returns-then-osc-self-clause-actions : goal.returns-then-osc-self-clause-actions
-returns-then-osc-self-clause-actions c = λ h word stands. regressed_tick c.args.self.now h c.args.osc word stands c.if-osc-self.true ∙ ap (λ a. a ∷ []) (sym c.note.ensures)
+pub returns-in-Some-clause-step : goal.returns-in-Some-clause-step
+returns-in-Some-clause-step c = if_ok c.single.result _ _ c.single.ensures (λ actions has. λ word.
+    subst (IsStep c.args.self.now c.args.self.now (event.Tick c.args.osc word)) (sym (has ∙ ap (λ a. a ∷ []) c.in-Some.ensures.1))
+    (back_step c.args.self.now (event.Tick c.args.osc word) refl c.requires.osc c.in-Some.ensures.0 refl refl))
 
-pub returns-then-osc-self-clause-stands : goal.returns-then-osc-self-clause-stands
-returns-then-osc-self-clause-stands c = λ h word stands. regressed_stands c.args.self.now h c.args.osc word stands c.requires.osc c.if-osc-self.true
+pub renewed-requires-clause-sound : goal.renewed-requires-clause-sound
+renewed-requires-clause-sound c = sound_node c.args.self.now c.requires.stands.0 c.requires.stands.1
 
-pub renew-requires-clause-sound : goal.renew-requires-clause-sound
-renew-requires-clause-sound c = sound_node c.args.self.now c.requires.stands.0 c.requires.stands.1
+pub renewed-requires-clause-born : goal.renewed-requires-clause-born
+renewed-requires-clause-born c = omega (arith, born_node c.args.self.now c.requires.stands.0 c.requires.stands.1, c.in_default.ensures)
 
-pub renew-requires-clause-born : goal.renew-requires-clause-born
-renew-requires-clause-born c = omega (arith, born_node c.args.self.now c.requires.stands.0 c.requires.stands.1, c.if-osc-self.false)
+pub returns-in_default-renewed-clause-step : goal.returns-in_default-renewed-clause-step
+returns-in_default-renewed-clause-step c = λ word.
+    subst (IsStep c.args.self.now (record c.args.self.now { sync_osc = c.args.osc }) (event.Tick c.args.osc word)) (sym c.new.ensures.items)
+    (tick_passes c.args.self.now c.args.osc word c.requires.osc c.in_default.ensures (sym c.renewed.ensures.renewed ∙ c.in_default-renewed.is))
 
-pub returns-clause-actions : goal.returns-clause-actions
-returns-clause-actions c = λ h word stands. tick_gives c.args.self.now h c.args.osc word stands c.if-osc-self.false ∙ sym c.renew.ensures.published
-
-pub returns-clause-stands : goal.returns-clause-stands
-returns-clause-stands c = λ h word stands.
-    subst (λ n. StandsFor n (followed_by h (event.Tick c.args.osc word))) (sym c.renew.ensures.state)
-    (tick_stands c.args.self.now h c.args.osc word stands c.requires.osc c.if-osc-self.false)
+pub returns-clause-step : goal.returns-clause-step
+returns-clause-step c = λ word.
+    subst (IsStep c.args.self.now (record c.args.self.now { sync_osc = c.args.osc; current = c.in-Some-renewed.rec }) (event.Tick c.args.osc word)) (sym c.in_ok-actions.ensures)
+    (tick_renews c.args.self.now c.args.osc word c.in-Some-renewed.rec c.requires.osc c.in_default.ensures (sym c.renewed.ensures.renewed ∙ c.in-Some-renewed.is))
