@@ -1,5 +1,10 @@
 -- What follows of how a filter ended for the status of its command.
-use Rattle.std.proofs.Common.{◌≡◌, ◌⊎◌, inl, inr, ℕ, List, [], Option, Some, Result, Ok, Err, ◌∙◌, ap}
+use Rattle.std.proofs.Common.{◌≡◌, ◌⊎◌, inl, inr, ℕ, List, [], Option, Some, None, Result, Ok, Err, ◌∙◌, refl, sym, ap, arith, append-nil}
+use Rattle.dts_base.specs.Streams.{AppendsPart, Wrote}
+use Rattle.dts_base.specs.Told.{Told}
+use Rattle.line_reader.specs.Lines.{lines_of}
+use Rattle.slew_clock.specs.declared.rates.Rates.{Rates}
+use Rattle.dts_program.specs.Commands.{HasAnswered, HasReplayedSafely}
 use Rattle.line_filter.specs.declared.stop.Stop.{Stop}
 use Rattle.line_filter.specs.declared.stop.Stop.TheVariants as stop
 use Rattle.line_filter.specs.Filters.{Rules, HasFiltered}
@@ -22,3 +27,35 @@ pub done_or_no_memory : {Cause : Type 0} (refused : ℕ → Cause → Status) (e
     → (status_of refused end ≡ status.Done) ⊎ (status_of refused end ≡ status.NoMemory)
 done_or_no_memory refused end (inl e) = inl (ap (status_of refused) e)
 done_or_no_memory refused end (inr e) = inr (ap (status_of refused) e)
+
+-- nothing is written
+pub nothing_wrote : (before : Option (List ℕ)) → Wrote before before []
+nothing_wrote None = refl
+nothing_wrote (Some old) = (old, refl, sym (append-nil old))
+
+-- a part of a piece is written
+pub part_wrote : (piece : List ℕ) (before now : Option (List ℕ)) → Told before now (AppendsPart piece) → (text : List ℕ) × Wrote before now text
+part_wrote piece None now told = ([], told)
+part_wrote piece (Some old) now (new, is, (part, begins, appends)) = (part, (new, is, appends))
+
+-- want of memory before the first line is read
+pub nothing_answered : {State Cause : Type 0} (rules : Rules State Cause) (from : State) (refused : ℕ → Cause → Status) (octets : List ℕ) (left before : Option (List ℕ))
+    → left ≡ Some octets → HasAnswered rules from (status_of refused) octets left status.NoMemory before before
+nothing_answered rules from refused octets left before there = record {
+  end = Err stop.NoMemory;
+  is = refl;
+  filtered = record {
+    more = octets;
+    left_is = there;
+    text = [];
+    filters = record { front = []; rest = lines_of octets; all = refl; state = from; taken = record { few = omega arith; each = (refl, refl) } };
+    wrote = nothing_wrote before;
+  };
+}
+
+pub nothing_replayed : (rates : Rates) (before : Option (List ℕ)) → HasReplayedSafely rates status.NoMemory before before
+nothing_replayed rates before = record {
+  end = Err stop.NoMemory;
+  is = refl;
+  safe = record { text = []; wrote = nothing_wrote before; safe = record { history = None; safe = tt; log = refl } };
+}

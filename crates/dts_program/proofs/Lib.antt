@@ -1,2 +1,5 @@
 pub mod Ending
-pub mod CommandLines
+pub mod WordFacts
+pub mod FaultKinds
+pub mod Meanings
+pub mod WordRows

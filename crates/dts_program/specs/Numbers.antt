@@ -10,4 +10,4 @@ number_of (status.CaptureRefused line column cause) = 2
 number_of (status.ReadFault which) = 4
 number_of (status.WriteFault which) = 5
 number_of status.NoMemory = 6
-number_of (status.UtcRefused line cause) = 7
+number_of (status.UtcRefused line column cause) = 7

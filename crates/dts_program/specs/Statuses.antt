@@ -3,7 +3,7 @@ use Rattle.std.specs.Prelude.{ℕ, Result, Ok, Err}
 use Rattle.line_filter.specs.declared.stop.Stop.{Stop}
 use Rattle.line_filter.specs.declared.stop.Stop.TheVariants as stop
 use Rattle.capture_replay.specs.declared.fault.CaptureFault.{CaptureFault}
-use Rattle.utc_calculator.specs.declared.cause.UtcCause.{UtcCause}
+use Rattle.utc_calculator.specs.declared.cause.UtcRefusal.{UtcRefusal}
 use Rattle.dts_program.specs.declared.status.Status.{Status}
 use Rattle.dts_program.specs.declared.status.Status.TheVariants as status
 use Rattle.dts_program.specs.declared.status.SourceName.TheVariants as source
@@ -22,13 +22,13 @@ abbrev pub capture_status : Result (Unit {0}) (Stop CaptureFault) → Status
 capture_status = status_of (λ line fault. status.CaptureRefused line fault.column fault.cause)
 
 -- that of the calculator
-abbrev pub utc_status : Result (Unit {0}) (Stop UtcCause) → Status
-utc_status = status_of status.UtcRefused
+abbrev pub utc_status : Result (Unit {0}) (Stop UtcRefusal) → Status
+utc_status = status_of (λ line refusal. status.UtcRefused line refusal.column refusal.cause)
 
 -- the statuses of `replay`
 abbrev pub IsReplayStatus : Status → Type 0
 IsReplayStatus status.Usage = ⊥
-IsReplayStatus (status.UtcRefused line why) = ⊥
+IsReplayStatus (status.UtcRefused line column why) = ⊥
 IsReplayStatus _ = Unit {0}
 
 -- the statuses of `utc`
@@ -36,3 +36,10 @@ abbrev pub IsUtcStatus : Status → Type 0
 IsUtcStatus status.Usage = ⊥
 IsUtcStatus (status.CaptureRefused line column why) = ⊥
 IsUtcStatus _ = Unit {0}
+
+-- the statuses of words that ask for the help or for the version
+abbrev pub IsShownStatus : Status → Type 0
+IsShownStatus status.Done = Unit {0}
+IsShownStatus (status.WriteFault which) = Unit {0}
+IsShownStatus status.NoMemory = Unit {0}
+IsShownStatus _ = ⊥

@@ -2,7 +2,7 @@ ghost use Rattle.std.specs.Prelude.{◌≡◌, ◌⊎◌, ℕ, List, [], Some, R
 ghost use Rattle.dts_base.specs.Causes.{Rose};
 ghost use Rattle.line_reader.specs.Lines.{lines_of};
 ghost use Rattle.line_filter.specs.Filters.{IsValid, RefusesAt};
-ghost use Rattle.utc_calculator.specs.declared.cause.UtcCause.{UtcCause};
+ghost use Rattle.utc_calculator.specs.declared.cause.UtcRefusal.{UtcRefusal};
 ghost use Rattle.utc_calculator.specs.Answers.{calculator};
 ghost use Rattle.capture_replay.specs.Capture.{capture, unstarted};
 ghost use Rattle.dts_program.specs.Commands.{HasAnswered, HasReplayedSafely};
@@ -16,7 +16,7 @@ use dts_base::{Sink, Source};
 use line_filter::Stop;
 use slew_clock::Rates;
 use std::alloc::Global;
-use utc_calculator::{UtcCause, calculate};
+use utc_calculator::{UtcRefusal, calculate};
 
 /// Replays a capture at these rates: reads it from the input, and writes the log of its history to the output, the text
 /// of each event as one piece, in bounded memory. It ends at the first line that is refused, or at the end of the input.
@@ -82,7 +82,7 @@ pub fn utc<I: Source, O: Sink>(alloc: Global, input: &mut I, output: &mut O) -> 
     ensures complete { (octets text : List ℕ) → I.left input.old ≡ Some octets → IsValid calculator tt octets text →
         (Rose (I.faults input.old) (I.faults input.new) → ⊥) → (Rose (O.faults output.old) (O.faults output.new) → ⊥) → (result ≡ Status.Done) ⊎ (result ≡ Status.NoMemory) }
     ensures unrefused { (octets : List ℕ) → I.left input.old ≡ Some octets →
-        ((n : ℕ) (cause : UtcCause) (text : List ℕ) → RefusesAt calculator tt (lines_of octets) n cause text → ⊥) →
+        ((n : ℕ) (cause : UtcRefusal) (text : List ℕ) → RefusesAt calculator tt (lines_of octets) n cause text → ⊥) →
         (Rose (I.faults input.old) (I.faults input.new) → ⊥) → (Rose (O.faults output.old) (O.faults output.new) → ⊥) → (result ≡ Status.Done) ⊎ (result ≡ Status.NoMemory) }
 
     // It answers a fault exactly where the faults of that object rose.
@@ -96,12 +96,21 @@ pub fn utc<I: Source, O: Sink>(alloc: Global, input: &mut I, output: &mut O) -> 
 }
 
 // The status of a calculation that ended or stopped so.
-fn utc_status(end: Result<(), Stop<UtcCause>>) -> Status
+fn utc_status(end: Result<(), Stop<UtcRefusal>>) -> Status
     ensures { result ≡ utc_status end }
 {
     match end {
         Ok(()) => Status::Done,
-        Err(Stop::Refused { line, cause }) => Status::UtcRefused { line, cause },
+        Err(
+            Stop::Refused {
+                line,
+                cause: refusal,
+            },
+        ) => Status::UtcRefused {
+            line,
+            column: refusal.column,
+            cause: refusal.cause,
+        },
         Err(Stop::Read) => Status::ReadFault {
             which: SourceName::Input,
         },

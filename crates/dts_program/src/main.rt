@@ -5,18 +5,22 @@
 ghost use Rattle.std.specs.Prelude.{◌≡◌, IfOk, vec_len};
 
 mod command;
+mod command_line;
 mod outside;
 mod status;
+mod syntax;
 #[cfg(test)]
 mod tests;
+mod word_laws;
 
+use crate::command_line::{NoCommand, read_words};
 use crate::outside::{Outside, ServeSide, run};
-use crate::status::Status;
+use crate::status::{SinkName, SourceName, Status};
 use dts_base::{MemoryLink, MemoryOscillator, MemorySink, MemoryWords, NoMemory};
 use dts_edge::{FileSource, ReaderSource, WriterSink};
 use std::alloc::Global;
 use std::env;
-use std::io::{ErrorKind, Stdin, Stdout};
+use std::io::{self, ErrorKind, Stdin, Stdout};
 use std::process::ExitCode;
 
 /// The roster file, in the current folder.
@@ -85,14 +89,59 @@ fn real_outside(rt: &HostRuntime) -> Result<Real<'_>, NoMemory>
     })
 }
 
+// What the system said of the call behind a status, where it is one of a fault.
+fn said(out: &Real, status: &Status) -> Option<ErrorKind> {
+    match status {
+        Status::ReadFault {
+            which: SourceName::Input,
+        } => out.input.fault(),
+        Status::ReadFault {
+            which: SourceName::RosterFile,
+        } => out.roster_file.fault(),
+        Status::WriteFault {
+            which: SinkName::Output,
+        } => out.output.fault(),
+        _ => None,
+    }
+}
+
+// Says on standard error how the program ended, where it did not do what the words ask for.
+fn say(rt: &HostRuntime, words: &[String], out: &Real, status: &Status) -> io::Result<()> {
+    match status {
+        Status::Done => Ok(()),
+        Status::Usage => say_usage(rt, words),
+        status => match said(out, status) {
+            Some(kind) => eprintln!(rt; "dts: {status}: {kind}"),
+            None => eprintln!(rt; "dts: {status}"),
+        },
+    }
+}
+
+// Says why the words are no command.
+fn say_usage(rt: &HostRuntime, words: &[String]) -> io::Result<()> {
+    match read_words(rt.alloc(), words) {
+        Ok(_line) => eprintln!(rt; "dts: this command is not built yet"),
+        Err(NoCommand::Refused(error)) => eprint!(rt; "dts: {error}"),
+        Err(NoCommand::Shown(error)) => eprint!(rt; "{error}"),
+        Err(wrong) => eprintln!(rt; "dts: {wrong}"),
+    }
+}
+
+// Says a status on standard error.
+fn told(rt: &HostRuntime, status: Status) -> Status {
+    let _ = eprintln!(rt; "dts: {status}");
+    status
+}
+
 fn main(rt: HostRuntime) -> ExitCode {
     let status = match (words(&rt), real_outside(&rt)) {
-        (Ok(words), Ok(mut out)) => run(&rt, rt.alloc(), words.as_slice(), &mut out),
-        (Err(status), _) => status,
-        (_, Err(NoMemory)) => Status::NoMemory,
+        (Ok(words), Ok(mut out)) => {
+            let status = run(&rt, rt.alloc(), words.as_slice(), &mut out);
+            let _ = say(&rt, words.as_slice(), &out, &status);
+            status
+        }
+        (Err(status), _) => told(&rt, status),
+        (_, Err(NoMemory)) => told(&rt, Status::NoMemory),
     };
-    if status != Status::Done {
-        let _ = eprintln!(rt; "dts: {status}");
-    }
     ExitCode::from(status.number())
 }

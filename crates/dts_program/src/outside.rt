@@ -1,20 +1,24 @@
-ghost use Rattle.std.specs.Prelude.{◌≡◌, ◌⊎◌, ◌↔◌, ℕ, List, [], ◌∷◌, map, codes, vec_len, Some};
+ghost use Rattle.std.specs.Prelude.{◌≡◌, ◌⊎◌, ℕ, List, [], map, vec_len, Some, false};
 ghost use Rattle.std.specs.String.{string_bytes};
 ghost use Rattle.dts_base.specs.Causes.{Rose};
+ghost use Rattle.dts_base.specs.Streams.{Wrote};
 ghost use Rattle.line_reader.specs.Lines.{lines_of};
 ghost use Rattle.line_filter.specs.Filters.{IsValid, RefusesAt};
-ghost use Rattle.utc_calculator.specs.declared.cause.UtcCause.{UtcCause};
+ghost use Rattle.utc_calculator.specs.declared.cause.UtcRefusal.{UtcRefusal};
 ghost use Rattle.utc_calculator.specs.Answers.{calculator};
 ghost use Rattle.slew_clock.specs.UsualRates.{usual_rates};
 ghost use Rattle.capture_replay.specs.Capture.{capture, unstarted};
 ghost use Rattle.dts_program.specs.Commands.{HasAnswered, HasReplayedSafely};
-ghost use Rattle.dts_program.specs.Statuses.{IsReplayStatus, IsUtcStatus, capture_status, utc_status};
+ghost use Rattle.dts_program.specs.Statuses.{IsReplayStatus, IsShownStatus, IsUtcStatus, capture_status, utc_status};
+ghost use Rattle.dts_program.specs.Words.{IsRefused, asks, meaning_of, means};
 ghost use Rattle.dts_program.specs.declared.status.SourceName.{SourceName};
 ghost use Rattle.dts_program.specs.declared.status.SinkName.{SinkName};
 
 use crate::command::{replay, utc};
+use crate::command_line::{CommandLine, NoCommand, read_words};
 use crate::status::{SinkName, SourceName, Status};
-use dts_base::{Link, Oscillator, Sink, Source, Words};
+use clap::Error as ClapError;
+use dts_base::{Failed, Link, Oscillator, Sink, Source, Words, write_all};
 use slew_clock::Rates;
 use std::alloc::Global;
 use std::sync::Wait;
@@ -55,7 +59,8 @@ pub struct Outside<I, F, O, C, L, K, W> {
 }
 
 /// Runs a command line, the words after the program's name, over the outside that is handed in: `replay`, at the usual
-/// rates, or `utc`.
+/// rates, or `utc`. The help and the version are written to the output. Each command has clauses of its own, whose
+/// premise is that the words mean it.
 pub fn run<
     R: Threads + Wait + Sync,
     I: Source,
@@ -68,41 +73,46 @@ pub fn run<
 >(_rt: &R, alloc: Global, words: &[String], out: &mut Outside<I, F, O, C, L, K, W>) -> Status
     requires four { vec_len out.old.serve ≡ 4 }
 
-    // Usage comes exactly where the words are no command line, and then nothing is touched. No command touches more than the input and the output.
-    ensures usage { (result ≡ Status.Usage) ↔ ((map string_bytes words.now ≡ codes "replay" ∷ [] → ⊥) × (map string_bytes words.now ≡ codes "utc" ∷ [] → ⊥)) }
-    ensures untouched { result ≡ Status.Usage → out.new ≡ out.old }
+    // Usage comes exactly where the words mean nothing, or a command that is not built, and then nothing is touched. Want
+    // of memory may come in its place. Whatever the words are, nothing but the input and the output is touched.
+    ensures usage { result ≡ Status.Usage → IsRefused (meaning_of (map string_bytes words.now)) }
+    ensures refused { IsRefused (meaning_of (map string_bytes words.now)) → (result ≡ Status.Usage) ⊎ (result ≡ Status.NoMemory) }
+    ensures untouched { IsRefused (meaning_of (map string_bytes words.now)) → out.new ≡ out.old }
     ensures others { out.new ≡ record out.old { input = out.new.input; output = out.new.output } }
 
-    // What is done was read to its end.
-    ensures read_to_end { result ≡ Status.Done → (octets : List ℕ) → I.left out.old.input ≡ Some octets → I.left out.new.input ≡ Some [] }
+    // Words that ask for the help or for the version have a text written, and leave the input as it is.
+    ensures shown { meaning_of (map string_bytes words.now) ≡ asks → IsShownStatus result × (out.new.input ≡ out.old.input) × ((text : List ℕ) × Wrote (O.written out.old.output) (O.written out.new.output) text) }
+
+    // What a command has done was read to its end.
+    ensures read_to_end { (meaning_of (map string_bytes words.now) ≡ asks → ⊥) → result ≡ Status.Done → (octets : List ℕ) → I.left out.old.input ≡ Some octets → I.left out.new.input ≡ Some [] }
 
     // The log of `replay` is exactly what the rules define, of all lines or of those before the first refused one, and nothing else.
-    ensures log { map string_bytes words.now ≡ codes "replay" ∷ [] → (octets : List ℕ) → I.left out.old.input ≡ Some octets →
+    ensures log { meaning_of (map string_bytes words.now) ≡ means (CommandLine.Replay false) → (octets : List ℕ) → I.left out.old.input ≡ Some octets →
         HasAnswered capture (unstarted usual_rates) capture_status octets (I.left out.new.input) result (O.written out.old.output) (O.written out.new.output) }
 
     // In every honest world each reading that was written contains true time, and readings never go back but across a
     // step that the log names: the log is that of a safe history.
-    ensures safe { map string_bytes words.now ≡ codes "replay" ∷ [] → (octets : List ℕ) → I.left out.old.input ≡ Some octets →
+    ensures safe { meaning_of (map string_bytes words.now) ≡ means (CommandLine.Replay false) → (octets : List ℕ) → I.left out.old.input ≡ Some octets →
         HasReplayedSafely usual_rates result (O.written out.old.output) (O.written out.new.output) }
 
     // A valid capture is never refused.
-    ensures complete { map string_bytes words.now ≡ codes "replay" ∷ [] → (octets text : List ℕ) → I.left out.old.input ≡ Some octets → IsValid capture (unstarted usual_rates) octets text →
+    ensures complete { meaning_of (map string_bytes words.now) ≡ means (CommandLine.Replay false) → (octets text : List ℕ) → I.left out.old.input ≡ Some octets → IsValid capture (unstarted usual_rates) octets text →
         (Rose (I.faults out.old.input) (I.faults out.new.input) → ⊥) → (Rose (O.faults out.old.output) (O.faults out.new.output) → ⊥) → (result ≡ Status.Done) ⊎ (result ≡ Status.NoMemory) }
 
     // The answers of `utc` are those that the routines define, to all lines or to those before the first refused one, and nothing else.
-    ensures answers { map string_bytes words.now ≡ codes "utc" ∷ [] → (octets : List ℕ) → I.left out.old.input ≡ Some octets →
+    ensures answers { meaning_of (map string_bytes words.now) ≡ means CommandLine.Utc → (octets : List ℕ) → I.left out.old.input ≡ Some octets →
         HasAnswered calculator tt utc_status octets (I.left out.new.input) result (O.written out.old.output) (O.written out.new.output) }
 
     // No lines of which `utc` refuses none are refused. Valid lines are such.
-    ensures utc_complete { map string_bytes words.now ≡ codes "utc" ∷ [] → (octets text : List ℕ) → I.left out.old.input ≡ Some octets → IsValid calculator tt octets text →
+    ensures utc_complete { meaning_of (map string_bytes words.now) ≡ means CommandLine.Utc → (octets text : List ℕ) → I.left out.old.input ≡ Some octets → IsValid calculator tt octets text →
         (Rose (I.faults out.old.input) (I.faults out.new.input) → ⊥) → (Rose (O.faults out.old.output) (O.faults out.new.output) → ⊥) → (result ≡ Status.Done) ⊎ (result ≡ Status.NoMemory) }
-    ensures utc_unrefused { map string_bytes words.now ≡ codes "utc" ∷ [] → (octets : List ℕ) → I.left out.old.input ≡ Some octets →
-        ((n : ℕ) (cause : UtcCause) (text : List ℕ) → RefusesAt calculator tt (lines_of octets) n cause text → ⊥) →
+    ensures utc_unrefused { meaning_of (map string_bytes words.now) ≡ means CommandLine.Utc → (octets : List ℕ) → I.left out.old.input ≡ Some octets →
+        ((n : ℕ) (cause : UtcRefusal) (text : List ℕ) → RefusesAt calculator tt (lines_of octets) n cause text → ⊥) →
         (Rose (I.faults out.old.input) (I.faults out.new.input) → ⊥) → (Rose (O.faults out.old.output) (O.faults out.new.output) → ⊥) → (result ≡ Status.Done) ⊎ (result ≡ Status.NoMemory) }
 
     // Each command answers its own statuses.
-    ensures replay_statuses { map string_bytes words.now ≡ codes "replay" ∷ [] → IsReplayStatus result }
-    ensures utc_statuses { map string_bytes words.now ≡ codes "utc" ∷ [] → IsUtcStatus result }
+    ensures replay_statuses { meaning_of (map string_bytes words.now) ≡ means (CommandLine.Replay false) → IsReplayStatus result }
+    ensures utc_statuses { meaning_of (map string_bytes words.now) ≡ means CommandLine.Utc → IsUtcStatus result }
 
     // A fault is answered exactly where the faults of that object rose: where none is answered they stayed.
     ensures read_fault { (which : SourceName) → result ≡ Status.ReadFault which → (which ≡ SourceName.Input) × Rose (I.faults out.old.input) (I.faults out.new.input) }
@@ -110,11 +120,34 @@ pub fn run<
     ensures read_kept { ((which : SourceName) → result ≡ Status.ReadFault which → ⊥) → I.faults out.new.input ≡ I.faults out.old.input }
     ensures write_kept { ((which : SinkName) → result ≡ Status.WriteFault which → ⊥) → O.faults out.new.output ≡ O.faults out.old.output }
 {
-    match words {
-        [word] if word.as_str() == "replay" => {
+    match read_words(alloc, words) {
+        Ok(CommandLine::Replay { roster: false }) => {
             replay(alloc, Rates::usual(), &mut out.input, &mut out.output)
         }
-        [word] if word.as_str() == "utc" => utc(alloc, &mut out.input, &mut out.output),
-        _ => Status::Usage,
+        Ok(CommandLine::Utc) => utc(alloc, &mut out.input, &mut out.output),
+        Err(NoCommand::Shown(text)) => show_text(alloc, &text, &mut out.output),
+        Err(NoCommand::NoMemory) => Status::NoMemory,
+        Ok(_unbuilt) => Status::Usage,
+        Err(NoCommand::Refused(_why)) => Status::Usage,
+        Err(NoCommand::Value) => Status::Usage,
+    }
+}
+
+// Writes the help or the version.
+#[tactic(auto, using(crate::proofs::Ending::nothing_wrote, crate::proofs::Ending::part_wrote))]
+fn show_text<O: Sink>(alloc: Global, shown: &ClapError, output: &mut O) -> Status
+    ensures statuses { IsShownStatus result }
+    ensures wrote { (text : List ℕ) × Wrote (O.written output.old) (O.written output.new) text }
+    ensures write_fault { (which : SinkName) → result ≡ Status.WriteFault which → (which ≡ SinkName.Output) × Rose (O.faults output.old) (O.faults output.new) }
+    ensures write_kept { ((which : SinkName) → result ≡ Status.WriteFault which → ⊥) → O.faults output.new ≡ O.faults output.old }
+{
+    let Ok(text) = format!(in alloc; "{shown}") else {
+        return Status::NoMemory;
+    };
+    match write_all(output, text.as_bytes()) {
+        Ok(()) => Status::Done,
+        Err(Failed) => Status::WriteFault {
+            which: SinkName::Output,
+        },
     }
 }

@@ -42,8 +42,8 @@ pub enum Status {
     /// The input was read to its end.
     #[error("done")]
     Done,
-    /// The words are no command line.
-    #[error("usage: dts replay | dts utc")]
+    /// The words are no command line, or mean a command that is not built.
+    #[error("no command; try dts --help")]
     Usage,
     /// A line of the capture is refused; the log of the earlier lines stands.
     #[error("line {line}, column {column}: {cause}")]
@@ -71,10 +71,12 @@ pub enum Status {
     #[error("out of memory")]
     NoMemory,
     /// A line of the calculator is refused; the answers to the earlier lines stand.
-    #[error("line {line}: {cause}")]
+    #[error("line {line}, column {column}: {cause}")]
     UtcRefused {
         /// Its number, from 1.
         line: u64,
+        /// The column of what is wrong, from 1.
+        column: u32,
         /// What is wrong with it.
         cause: UtcCause,
     },

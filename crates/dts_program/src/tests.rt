@@ -1,10 +1,13 @@
 ghost use Rattle.std.specs.Prelude.{◌≡◌, IfOk, vec_len};
 
 use crate::command::utc;
+use crate::command_line::{CommandLine, HalfOptions, NoCommand, ShowKind, read_words};
 use crate::outside::{Outside, run};
 use crate::sides;
 use crate::status::{SinkName, SourceName, Status};
-use dts_base::{MemoryLink, MemoryOscillator, MemorySink, MemorySource, MemoryWords, NoMemory};
+use dts_base::{
+    MemoryLink, MemoryOscillator, MemorySink, MemorySource, MemoryWords, NoMemory, Text,
+};
 use dts_capture::LineCause;
 use std::alloc::{AllocError, Global};
 use std::test::Fail;
@@ -24,7 +27,11 @@ type InMemory = Outside<
 
 #[test]
 fn operations_give_their_answers(rt: HostRuntime) -> Result<(), Fail> {
-    let refused = |line, cause| Status::UtcRefused { line, cause };
+    let refused = |line, column, cause| Status::UtcRefused {
+        line,
+        column,
+        cause,
+    };
     let month = TextFault {
         field: TextField::Month,
         offset: 4,
@@ -46,17 +53,17 @@ fn operations_give_their_answers(rt: HostRuntime) -> Result<(), Fail> {
         ),
         (
             "sub 00-00:00:01 1970-01-01-00:00:00\n",
-            refused(1, UtcCause::Routine(UtcFault::Kinds)),
+            refused(1, 1, UtcCause::Routine(UtcFault::Kinds)),
             "",
         ),
         (
             "bytes 1970-01-01-00:00:00I0\nabs 1970-13-01-00:00:00\nbytes 1970-01-01-00:00:00I0\n",
-            refused(2, UtcCause::Text(month)),
+            refused(2, 9, UtcCause::Text(month)),
             digits,
         ),
         (
             "bytes 1970-01-01-00:00:00I0\n\n",
-            refused(2, UtcCause::Word),
+            refused(2, 1, UtcCause::Word),
             digits,
         ),
     ] {
@@ -103,14 +110,18 @@ fn faults_of_a_calculation_are_answered(rt: HostRuntime) -> Result<(), Fail> {
 
 #[test]
 fn a_line_has_at_most_16384_octets(rt: HostRuntime) -> Result<(), Fail> {
-    let refused = |line, cause| Status::UtcRefused { line, cause };
+    let refused = |line, column, cause| Status::UtcRefused {
+        line,
+        column,
+        cause,
+    };
     let answer = b"00000000000000000000000000000020\n".as_slice();
     for (length, feed, status) in [
-        (16_384, true, refused(2, UtcCause::Word)),
-        (16_384, false, refused(2, UtcCause::Word)),
-        (16_385, true, refused(2, UtcCause::Long)),
-        (16_385, false, refused(2, UtcCause::Long)),
-        (200_000, false, refused(2, UtcCause::Long)),
+        (16_384, true, refused(2, 1, UtcCause::Word)),
+        (16_384, false, refused(2, 1, UtcCause::Word)),
+        (16_385, true, refused(2, 16_385, UtcCause::Long)),
+        (16_385, false, refused(2, 16_385, UtcCause::Long)),
+        (200_000, false, refused(2, 16_385, UtcCause::Long)),
     ] {
         let mut lines = b"bytes 00-00:00:00I0\n".to_vec(rt.alloc())?;
         for _ in 0..length {
@@ -153,10 +164,137 @@ fn words_of(alloc: Global, line: &str) -> Result<Vec<String>, AllocError> {
     Ok(words)
 }
 
+// What `read_words` makes of the words of a line.
+fn read(alloc: Global, line: &str) -> Result<Result<CommandLine, NoCommand>, AllocError> {
+    let words = words_of(alloc, line)?;
+    Ok(read_words(alloc, words.as_slice()))
+}
+
 #[test]
-fn the_words_are_one_command(rt: HostRuntime) -> Result<(), Fail> {
+fn words_mean_their_command(rt: HostRuntime) -> Result<(), Fail> {
+    let alloc = rt.alloc();
+    let usual = HalfOptions {
+        turns: 281_474_976_710_656,
+        start: 137_971_296_000_000_000,
+        inaccuracy: None,
+    };
+    let given = HalfOptions {
+        turns: 1,
+        start: 2_305_561_534_236_983_296,
+        inaccuracy: Some(281_474_976_710_654),
+    };
+    let text = |octets: &str| Text::from_slice(alloc, octets.as_bytes());
+    for (line, want) in [
+        ("replay", CommandLine::Replay { roster: false }),
+        ("replay --roster", CommandLine::Replay { roster: true }),
+        ("clerk", CommandLine::Clerk(usual)),
+        (
+            "clerk --inaccuracy 281474976710654 --turns 1 --start 2305561534236983296",
+            CommandLine::Clerk(given),
+        ),
+        (
+            "server",
+            CommandLine::Server {
+                options: usual,
+                workers: 1,
+            },
+        ),
+        (
+            "server --workers 4 --start=2305561534236983296 --turns 1 --inaccuracy 281474976710654",
+            CommandLine::Server {
+                options: given,
+                workers: 4,
+            },
+        ),
+        ("utc", CommandLine::Utc),
+        ("show pdu", CommandLine::Show(ShowKind::Pdu)),
+        ("show ntp", CommandLine::Show(ShowKind::Ntp)),
+        ("show utc", CommandLine::Show(ShowKind::Utc)),
+        ("drill 0 0", CommandLine::Drill { seed: 0, events: 0 }),
+        (
+            "drill 4294967295 1000000",
+            CommandLine::Drill {
+                seed: 4_294_967_295,
+                events: 1_000_000,
+            },
+        ),
+        (
+            "control 127.0.0.1:7001 show time",
+            CommandLine::Control {
+                address: text("127.0.0.1:7001")?,
+                command: text("show time")?,
+            },
+        ),
+    ] {
+        assert!(rt;
+            read(alloc, line)?.is_ok_and(|got| got == want),
+            "at {line:?}"
+        );
+    }
+    Ok(())
+}
+
+#[test]
+fn wrong_words_are_refused(rt: HostRuntime) -> Result<(), Fail> {
+    for line in [
+        "",
+        "x",
+        "Replay",
+        "UTC",
+        "help",
+        "--roster replay",
+        "replay x",
+        "replay utc",
+        "replay --turns 1",
+        "replay --roster --roster",
+        "utc x",
+        "clerk --turns",
+        "clerk --turns 1 --turns 2",
+        "clerk --turns 0",
+        "clerk --turns 281474976710657",
+        "clerk --turns 01",
+        "clerk --turns +1",
+        "clerk --turns -1",
+        "clerk --turns=-1",
+        "clerk --turns 1.0",
+        "clerk --start 2305561534236983297",
+        "clerk --start 18446744073709551616",
+        "clerk --inaccuracy 281474976710655",
+        "clerk --workers 1",
+        "server --workers 0",
+        "server --workers 5",
+        "show",
+        "show x",
+        "show pdu utc",
+        "drill 1",
+        "drill 1 2 3",
+        "drill 00 0",
+        "drill 4294967296 0",
+        "drill 0 1000001",
+        "control",
+        "control 127.0.0.1:7001",
+    ] {
+        assert!(rt;
+            matches!(
+                read(rt.alloc(), line)?,
+                Err(NoCommand::Refused(_) | NoCommand::Value)
+            ),
+            "at {line:?}"
+        );
+        let words = words_of(rt.alloc(), line)?;
+        let mut outside = in_memory(rt.alloc(), "start 0 1 unknown")?;
+        let got = run(&rt, rt.alloc(), words.as_slice(), &mut outside);
+        assert_eq!(rt; got, Status::Usage, "at {line:?}");
+        assert_eq!(rt; outside.output.written(), b"".as_slice(), "at {line:?}");
+    }
+    Ok(())
+}
+
+#[test]
+fn built_commands_run_and_others_are_usage(rt: HostRuntime) -> Result<(), Fail> {
     let word = Status::UtcRefused {
         line: 2,
+        column: 1,
         cause: UtcCause::Word,
     };
     let refused = |line, column, cause| Status::CaptureRefused {
@@ -166,7 +304,6 @@ fn the_words_are_one_command(rt: HostRuntime) -> Result<(), Fail> {
     };
     let record = "record 0 0 0 - - - 0 1 0 0 0\n";
     for (line, input, status, want) in [
-        ("", "", Status::Usage, ""),
         ("replay", "start 0 1 unknown", Status::Done, record),
         (
             "replay",
@@ -174,6 +311,7 @@ fn the_words_are_one_command(rt: HostRuntime) -> Result<(), Fail> {
             refused(2, 6, LineCause::Number),
             record,
         ),
+        ("replay", "", refused(1, 1, LineCause::Start), ""),
         ("replay", "#", refused(2, 1, LineCause::Start), ""),
         (
             "utc",
@@ -187,12 +325,12 @@ fn the_words_are_one_command(rt: HostRuntime) -> Result<(), Fail> {
             word,
             "equalTo\n",
         ),
-        ("replay x", "", Status::Usage, ""),
-        ("utc x", "", Status::Usage, ""),
-        ("replay utc", "", Status::Usage, ""),
-        ("Replay", "", Status::Usage, ""),
-        ("UTC", "", Status::Usage, ""),
-        ("drill", "", Status::Usage, ""),
+        ("replay --roster", "start 0 1 unknown", Status::Usage, ""),
+        ("clerk", "", Status::Usage, ""),
+        ("server --workers 2", "", Status::Usage, ""),
+        ("show pdu", "05", Status::Usage, ""),
+        ("drill 1 0", "", Status::Usage, ""),
+        ("control 127.0.0.1:7001 show", "", Status::Usage, ""),
     ] {
         let words = words_of(rt.alloc(), line)?;
         let mut outside = in_memory(rt.alloc(), input)?;
@@ -204,10 +342,36 @@ fn the_words_are_one_command(rt: HostRuntime) -> Result<(), Fail> {
 }
 
 #[test]
+fn help_and_version_go_to_the_output(rt: HostRuntime) -> Result<(), Fail> {
+    for (line, begin) in [
+        ("--help", "A time service"),
+        ("-h", "A time service"),
+        ("--version", "dts 0.1.0\n"),
+        ("drill --help", "Replays a capture"),
+        ("replay x --help", ""),
+    ] {
+        let words = words_of(rt.alloc(), line)?;
+        let mut outside = in_memory(rt.alloc(), "start 0 1 unknown")?;
+        let got = run(&rt, rt.alloc(), words.as_slice(), &mut outside);
+        let status = if begin.is_empty() {
+            Status::Usage
+        } else {
+            Status::Done
+        };
+        assert_eq!(rt; got, status, "at {line:?}");
+        assert!(rt;
+            outside.output.written().starts_with(begin.as_bytes()),
+            "at {line:?}"
+        );
+    }
+    Ok(())
+}
+
+#[test]
 fn statuses_have_their_numbers_and_texts(rt: HostRuntime) -> Result<(), Fail> {
     for (status, number, text) in [
         (Status::Done, 0, "done"),
-        (Status::Usage, 1, "usage: dts replay | dts utc"),
+        (Status::Usage, 1, "no command; try dts --help"),
         (
             Status::CaptureRefused {
                 line: 3,
@@ -215,7 +379,8 @@ fn statuses_have_their_numbers_and_texts(rt: HostRuntime) -> Result<(), Fail> {
                 cause: LineCause::Range,
             },
             2,
-            "line 3, column 8: this number is out of its range",
+            "line 3, column 8: this number is out of its range: OSC is 0 to 2^60, VALUE, LO and HI 0 to 2^61, \
+             PEER and TAG 0 to 2^32 - 1, CONN 1000 to 2^32 - 1, REQUIRED 1 to 64, K 0 to 2^64 - 1",
         ),
         (
             Status::ReadFault {
@@ -256,10 +421,11 @@ fn statuses_have_their_numbers_and_texts(rt: HostRuntime) -> Result<(), Fail> {
         (
             Status::UtcRefused {
                 line: 3,
+                column: 1,
                 cause: UtcCause::Routine(UtcFault::Kinds),
             },
             7,
-            "line 3: the kinds of the operands do not allow it",
+            "line 3, column 1: no result: the kinds of the operands do not allow it; add takes one moment at most, sub no moment from a length of time, abs and mul a length, tdf a moment, and the others two of one kind",
         ),
     ] {
         assert_eq!(rt; status.number(), number);
