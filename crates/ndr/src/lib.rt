@@ -18,6 +18,3 @@ pub use fault::{DecodeFault, WriteFault};
 pub use laws::{one_refusal, written_reads_back};
 pub use reader::Reader;
 pub use writer::Writer;
-
-#[cfg(test)]
-mod tests;

@@ -4,11 +4,11 @@ use Rattle.std.specs.Prelude.{IfOk, IfErr, None}
 use Rattle.dts_base.specs.declared.wire.Refused.{Refused}
 use Rattle.ndr.specs.declared.fault.DecodeFault.{DecodeFault}
 use Rattle.ndr.specs.declared.fault.DecodeFault.TheVariants as fault
-use Rattle.rpc_pdu.specs.declared.pdu.Pdu.{Pdu}
-use Rattle.rpc_pdu.specs.Grammar.{table_of, Spells, FirstWrong, IsFaultOf}
+use Rattle.pdu_fields.specs.declared.pdu.Pdu.{Pdu}
+use Rattle.pdu_fields.specs.Grammar.{table_of, Spells, FirstWrong, IsFaultOf}
 use Rattle.rpc_pdu.specs.Soundness.{unsound}
 use Rattle.rpc_pdu.specs.Values.{IsOctets}
-use Rattle.rpc_pdu.specs.Parsing.{Parses}
+use Rattle.pdu_fields.specs.Parsing.{Parses}
 use Rattle.rpc_pdu.proofs.Sound.{spelled_is_sound}
 
 -- all octets, read by their table, give this

@@ -3,9 +3,9 @@ use Rattle.std.proofs.Common.{◌≡◌, ℕ, ◌+◌, ◌-◌, ◌<◌, ◌≤�
 use Rattle.std.proofs.lemmas.List.{append-nil}
 use mathlib.Core.Path.{fun_ext}
 use Rattle.ndr.specs.declared.fault.DecodeFault.{DecodeFault}
-use Rattle.rpc_pdu.specs.declared.pdu.Pdu.{Pdu}
-use Rattle.rpc_pdu.specs.Tables.{Table, repeated}
-use Rattle.rpc_pdu.specs.Parsing.{Place, Parses, ReadSoFar}
+use Rattle.pdu_fields.specs.declared.pdu.Pdu.{Pdu}
+use Rattle.pdu_fields.specs.Tables.{Table, repeated}
+use Rattle.pdu_fields.specs.Parsing.{Place, Parses, ReadSoFar}
 
 -- what follows those that were read
 after : {A : Type 0} → List A → (List A → Table) → List A → Table

@@ -12,27 +12,27 @@ use Rattle.ndr.specs.declared.endian.Endian.TheVariants.{Big, Little}
 use Rattle.ndr.specs.Numbers.{number_octets, gap}
 use Rattle.ndr.proofs.NumberFacts.{length-number_octets, number_in-number_octets, take-front}
 use Rattle.uuid.proofs.RoundTrips.{swap_twice}
-use Rattle.rpc_pdu.specs.declared.kind.Ptype.{Ptype}
-use Rattle.rpc_pdu.specs.declared.kind.Ptype.TheVariants as ptype
-use Rattle.rpc_pdu.specs.declared.header.Header.{Header}
-use Rattle.rpc_pdu.specs.declared.header.TheConstants.{HEADER_LENGTH, MAX_FRAGMENT, RPC_VERS, MAX_MINOR, MAX_CONTEXTS, MAX_TRANSFERS, MAX_RESULT, MAX_REASON, MAX_ADDRESS}
-use Rattle.rpc_pdu.specs.declared.pdu.Pdu.{Pdu}
-use Rattle.rpc_pdu.specs.declared.pdu.Body.{Body}
-use Rattle.rpc_pdu.specs.declared.pdu.Body.TheVariants as body
-use Rattle.rpc_pdu.specs.declared.pdu.BindBody.{BindBody}
-use Rattle.rpc_pdu.specs.declared.pdu.AckBody.{AckBody}
-use Rattle.rpc_pdu.specs.declared.pdu.Context.{Context}
-use Rattle.rpc_pdu.specs.declared.pdu.ContextResult.{ContextResult}
-use Rattle.rpc_pdu.specs.declared.pdu.Syntax.{Syntax}
-use Rattle.rpc_pdu.specs.declared.pdu.Protocol.{Protocol}
-use Rattle.rpc_pdu.specs.Tables.{Table, Ends, Kept, Passed, Padded, Rest, Shape, octet, number, identifier, octets, size_of, value_of, value_in, in_order, reading, repeated}
-use Rattle.rpc_pdu.specs.Headers.{any, between, exactly, header, is_length, number_of, ptype_at, order_at, coded, length_part, order_part, ptype_part}
-use Rattle.rpc_pdu.specs.Bodies.{ack_part, bind_part, body_of, context_part, ends, fault_table, has_object, kind_of, nak_table, protocol_part, request_table, response_table, result_part, syntax_part}
-use Rattle.rpc_pdu.specs.Grammar.{table_of, Spells}
+use Rattle.pdu_fields.specs.declared.kind.Ptype.{Ptype}
+use Rattle.pdu_fields.specs.declared.kind.Ptype.TheVariants as ptype
+use Rattle.pdu_fields.specs.declared.header.Header.{Header}
+use Rattle.pdu_fields.specs.declared.header.TheConstants.{HEADER_LENGTH, MAX_FRAGMENT, RPC_VERS, MAX_MINOR, MAX_CONTEXTS, MAX_TRANSFERS, MAX_RESULT, MAX_REASON, MAX_ADDRESS}
+use Rattle.pdu_fields.specs.declared.pdu.Pdu.{Pdu}
+use Rattle.pdu_fields.specs.declared.pdu.Body.{Body}
+use Rattle.pdu_fields.specs.declared.pdu.Body.TheVariants as body
+use Rattle.pdu_fields.specs.declared.pdu.BindBody.{BindBody}
+use Rattle.pdu_fields.specs.declared.pdu.AckBody.{AckBody}
+use Rattle.pdu_fields.specs.declared.pdu.Context.{Context}
+use Rattle.pdu_fields.specs.declared.pdu.ContextResult.{ContextResult}
+use Rattle.pdu_fields.specs.declared.pdu.Syntax.{Syntax}
+use Rattle.pdu_fields.specs.declared.pdu.Protocol.{Protocol}
+use Rattle.pdu_fields.specs.Tables.{Table, Ends, Kept, Passed, Padded, Rest, Shape, octet, number, identifier, octets, size_of, value_of, value_in, in_order, reading, repeated}
+use Rattle.pdu_fields.specs.Headers.{any, between, exactly, header, is_length, number_of, ptype_at, order_at, coded, length_part, order_part, ptype_part}
+use Rattle.pdu_fields.specs.Bodies.{ack_part, bind_part, body_of, context_part, ends, fault_table, has_object, kind_of, nak_table, protocol_part, request_table, response_table, result_part, syntax_part}
+use Rattle.pdu_fields.specs.Grammar.{table_of, Spells}
 use Rattle.rpc_pdu.specs.Soundness.{unless, unsound, unsound_ack, unsound_bind, unsound_body, unsound_contexts, unsound_results}
 use Rattle.rpc_pdu.specs.Spelling.{ack_octets, address_octets, bind_octets, body_octets, context_octets, count_octets, encoding, header_octets, object_octets, order_octet, protocol_octets, result_octets, size_of_pdu, spelling, syntax_octets, unless_long, unless_unsound}
 use Rattle.rpc_pdu.specs.Values.{FitsUuid, FitsSyntax, FitsContext, FitsBind, FitsResult, FitsAck, FitsBody, FitsPdu}
-use Rattle.rpc_pdu.proofs.Parsed.{kept_reading}
+use Rattle.pdu_fields.proofs.Parsed.{kept_reading}
 
 -- a field whose octets stand in front
 field_back : (name : Field) (shape : Shape) (right : value_of shape → Bool) (more : value_of shape → Table) (x : value_of shape) (piece rest : List ℕ) (at : ℕ) (v : Pdu)

@@ -12,22 +12,22 @@ use Rattle.ndr.specs.declared.endian.Endian.{Endian}
 use Rattle.ndr.specs.declared.endian.Endian.TheVariants.{Big}
 use Rattle.ndr.specs.Numbers.{gap}
 use Rattle.ndr.specs.Reading.{refusal}
-use Rattle.rpc_pdu.specs.declared.kind.Ptype.{Ptype}
-use Rattle.rpc_pdu.specs.declared.kind.Ptype.TheVariants as ptype
-use Rattle.rpc_pdu.specs.declared.header.Header.{Header}
-use Rattle.rpc_pdu.specs.declared.header.TheConstants.{MAX_MINOR, MAX_CONTEXTS, MAX_TRANSFERS, MAX_RESULT, MAX_REASON, MAX_ADDRESS, MAX_PROTOCOLS, RPC_VERS}
-use Rattle.rpc_pdu.specs.declared.pdu.Pdu.{Pdu}
-use Rattle.rpc_pdu.specs.declared.pdu.Body.{Body}
-use Rattle.rpc_pdu.specs.declared.pdu.Body.TheVariants as body
-use Rattle.rpc_pdu.specs.declared.pdu.BindBody.{BindBody}
-use Rattle.rpc_pdu.specs.declared.pdu.AckBody.{AckBody}
-use Rattle.rpc_pdu.specs.declared.pdu.Context.{Context}
-use Rattle.rpc_pdu.specs.declared.pdu.ContextResult.{ContextResult}
-use Rattle.rpc_pdu.specs.declared.pdu.Syntax.{Syntax}
-use Rattle.rpc_pdu.specs.Tables.{Table, Ends, Kept, Passed, Padded, Rest, Shape, octet, number, identifier, octets, size_of, value_of, value_in, reading, repeated}
-use Rattle.rpc_pdu.specs.Headers.{any, between, exactly, header, is_length, ptype_at, order_at, length_part, order_part, ptype_part}
-use Rattle.rpc_pdu.specs.Bodies.{ack_part, bind_part, body_of, context_part, ends, has_object, object_part, protocol_part, result_part, syntax_part}
-use Rattle.rpc_pdu.specs.Grammar.{table_of, Spells}
+use Rattle.pdu_fields.specs.declared.kind.Ptype.{Ptype}
+use Rattle.pdu_fields.specs.declared.kind.Ptype.TheVariants as ptype
+use Rattle.pdu_fields.specs.declared.header.Header.{Header}
+use Rattle.pdu_fields.specs.declared.header.TheConstants.{MAX_MINOR, MAX_CONTEXTS, MAX_TRANSFERS, MAX_RESULT, MAX_REASON, MAX_ADDRESS, MAX_PROTOCOLS, RPC_VERS}
+use Rattle.pdu_fields.specs.declared.pdu.Pdu.{Pdu}
+use Rattle.pdu_fields.specs.declared.pdu.Body.{Body}
+use Rattle.pdu_fields.specs.declared.pdu.Body.TheVariants as body
+use Rattle.pdu_fields.specs.declared.pdu.BindBody.{BindBody}
+use Rattle.pdu_fields.specs.declared.pdu.AckBody.{AckBody}
+use Rattle.pdu_fields.specs.declared.pdu.Context.{Context}
+use Rattle.pdu_fields.specs.declared.pdu.ContextResult.{ContextResult}
+use Rattle.pdu_fields.specs.declared.pdu.Syntax.{Syntax}
+use Rattle.pdu_fields.specs.Tables.{Table, Ends, Kept, Passed, Padded, Rest, Shape, octet, number, identifier, octets, size_of, value_of, value_in, reading, repeated}
+use Rattle.pdu_fields.specs.Headers.{any, between, exactly, header, is_length, ptype_at, order_at, length_part, order_part, ptype_part}
+use Rattle.pdu_fields.specs.Bodies.{ack_part, bind_part, body_of, context_part, ends, has_object, object_part, protocol_part, result_part, syntax_part}
+use Rattle.pdu_fields.specs.Grammar.{table_of, Spells}
 use Rattle.rpc_pdu.specs.Soundness.{unsound, unsound_ack, unsound_bind, unsound_body, unsound_contexts, unsound_results}
 use Rattle.rpc_pdu.specs.Values.{IsOctets}
 
@@ -191,7 +191,7 @@ ack_inverts most e few more v r =
     let group = value_in (number e 4) g.0 in
     let s = kept_reaches most field.SecLength (number e 2) any (λ size. Kept field.SecAddress (octets size) any (behind_address xmit recv group)) v g.4 in
     let size = value_in (number e 2) s.0 in
-    let a = kept_reaches most field.SecAddress (octets size) any (behind_address xmit recv group) v s.4 in
+    let a = kept_reaches most field.SecAddress (octets size) (any {A = List ℕ}) (behind_address xmit recv group) v s.4 in
     let address = take size a.0 in
     let n = kept_reaches most field.NResults octet (between 1 MAX_CONTEXTS) (λ count. Passed field.Reserved 3 (results xmit recv group address count)) v (padded_reaches most field.Padding 4 (Kept field.NResults octet (between 1 MAX_CONTEXTS) (λ count. Passed field.Reserved 3 (results xmit recv group address count))) v a.4) in
     let count = slice_index n.0 0 in

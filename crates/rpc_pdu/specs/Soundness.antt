@@ -2,16 +2,16 @@
 use Rattle.std.specs.Prelude.{ℕ, Bool, nat_le, if◌then◌else◌, List, [], ◌∷◌, length, Option, Some, None, is_some, is_none}
 use Rattle.dts_base.specs.declared.wire.Field.{Field}
 use Rattle.dts_base.specs.declared.wire.Field.TheVariants as field
-use Rattle.rpc_pdu.specs.declared.header.TheConstants.{MAX_MINOR, MAX_CONTEXTS, MAX_TRANSFERS, MAX_RESULT, MAX_REASON, MAX_ADDRESS, MAX_PROTOCOLS}
-use Rattle.rpc_pdu.specs.declared.pdu.Pdu.{Pdu}
-use Rattle.rpc_pdu.specs.declared.pdu.Body.{Body}
-use Rattle.rpc_pdu.specs.declared.pdu.Body.TheVariants as body
-use Rattle.rpc_pdu.specs.declared.pdu.BindBody.{BindBody}
-use Rattle.rpc_pdu.specs.declared.pdu.AckBody.{AckBody}
-use Rattle.rpc_pdu.specs.declared.pdu.Context.{Context}
-use Rattle.rpc_pdu.specs.declared.pdu.ContextResult.{ContextResult}
-use Rattle.rpc_pdu.specs.Headers.{between}
-use Rattle.rpc_pdu.specs.Bodies.{has_object}
+use Rattle.pdu_fields.specs.declared.header.TheConstants.{MAX_MINOR, MAX_CONTEXTS, MAX_TRANSFERS, MAX_RESULT, MAX_REASON, MAX_ADDRESS, MAX_PROTOCOLS}
+use Rattle.pdu_fields.specs.declared.pdu.Pdu.{Pdu}
+use Rattle.pdu_fields.specs.declared.pdu.Body.{Body}
+use Rattle.pdu_fields.specs.declared.pdu.Body.TheVariants as body
+use Rattle.pdu_fields.specs.declared.pdu.BindBody.{BindBody}
+use Rattle.pdu_fields.specs.declared.pdu.AckBody.{AckBody}
+use Rattle.pdu_fields.specs.declared.pdu.Context.{Context}
+use Rattle.pdu_fields.specs.declared.pdu.ContextResult.{ContextResult}
+use Rattle.pdu_fields.specs.Headers.{between}
+use Rattle.pdu_fields.specs.Bodies.{has_object}
 
 -- this field where it is not right, and else the first of the others
 abbrev pub unless : Bool → Field → Option Field → Option Field

@@ -7,19 +7,19 @@ use Rattle.ndr.specs.declared.endian.Endian.TheVariants.{Big, Little}
 use Rattle.ndr.specs.Numbers.{number_octets, gap}
 use Rattle.rpc_pdu.specs.declared.fault.EncodeFault.{EncodeFault}
 use Rattle.rpc_pdu.specs.declared.fault.EncodeFault.TheVariants as fault
-use Rattle.rpc_pdu.specs.declared.header.TheConstants.{HEADER_LENGTH, MAX_FRAGMENT, RPC_VERS, BIG_ORDER, LITTLE_ORDER}
-use Rattle.rpc_pdu.specs.declared.pdu.Pdu.{Pdu}
-use Rattle.rpc_pdu.specs.declared.pdu.Body.{Body}
-use Rattle.rpc_pdu.specs.declared.pdu.Body.TheVariants as body
-use Rattle.rpc_pdu.specs.declared.pdu.BindBody.{BindBody}
-use Rattle.rpc_pdu.specs.declared.pdu.AckBody.{AckBody}
-use Rattle.rpc_pdu.specs.declared.pdu.Context.{Context}
-use Rattle.rpc_pdu.specs.declared.pdu.ContextResult.{ContextResult}
-use Rattle.rpc_pdu.specs.declared.pdu.Syntax.{Syntax}
-use Rattle.rpc_pdu.specs.declared.pdu.Protocol.{Protocol}
-use Rattle.rpc_pdu.specs.Headers.{number_of}
-use Rattle.rpc_pdu.specs.Bodies.{kind_of}
-use Rattle.rpc_pdu.specs.Tables.{in_order}
+use Rattle.pdu_fields.specs.declared.header.TheConstants.{HEADER_LENGTH, MAX_FRAGMENT, RPC_VERS, BIG_ORDER, LITTLE_ORDER}
+use Rattle.pdu_fields.specs.declared.pdu.Pdu.{Pdu}
+use Rattle.pdu_fields.specs.declared.pdu.Body.{Body}
+use Rattle.pdu_fields.specs.declared.pdu.Body.TheVariants as body
+use Rattle.pdu_fields.specs.declared.pdu.BindBody.{BindBody}
+use Rattle.pdu_fields.specs.declared.pdu.AckBody.{AckBody}
+use Rattle.pdu_fields.specs.declared.pdu.Context.{Context}
+use Rattle.pdu_fields.specs.declared.pdu.ContextResult.{ContextResult}
+use Rattle.pdu_fields.specs.declared.pdu.Syntax.{Syntax}
+use Rattle.pdu_fields.specs.declared.pdu.Protocol.{Protocol}
+use Rattle.pdu_fields.specs.Headers.{number_of}
+use Rattle.pdu_fields.specs.Bodies.{kind_of}
+use Rattle.pdu_fields.specs.Tables.{in_order}
 use Rattle.rpc_pdu.specs.Soundness.{unsound}
 
 -- a count of one octet, and so many that are passed over

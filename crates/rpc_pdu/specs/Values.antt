@@ -1,14 +1,14 @@
 -- PDUs whose numbers fit the types of their fields, and whose uuids have 16 octets, as those have that a program holds.
 use Rattle.std.specs.Prelude.{◌≡◌, ℕ, ◌^◌, ◌<◌, List, length, slice_index, IfSome}
 use Rattle.std.specs.List.{AllByRecursion}
-use Rattle.rpc_pdu.specs.declared.pdu.Pdu.{Pdu}
-use Rattle.rpc_pdu.specs.declared.pdu.Body.{Body}
-use Rattle.rpc_pdu.specs.declared.pdu.Body.TheVariants as body
-use Rattle.rpc_pdu.specs.declared.pdu.BindBody.{BindBody}
-use Rattle.rpc_pdu.specs.declared.pdu.AckBody.{AckBody}
-use Rattle.rpc_pdu.specs.declared.pdu.Context.{Context}
-use Rattle.rpc_pdu.specs.declared.pdu.ContextResult.{ContextResult}
-use Rattle.rpc_pdu.specs.declared.pdu.Syntax.{Syntax}
+use Rattle.pdu_fields.specs.declared.pdu.Pdu.{Pdu}
+use Rattle.pdu_fields.specs.declared.pdu.Body.{Body}
+use Rattle.pdu_fields.specs.declared.pdu.Body.TheVariants as body
+use Rattle.pdu_fields.specs.declared.pdu.BindBody.{BindBody}
+use Rattle.pdu_fields.specs.declared.pdu.AckBody.{AckBody}
+use Rattle.pdu_fields.specs.declared.pdu.Context.{Context}
+use Rattle.pdu_fields.specs.declared.pdu.ContextResult.{ContextResult}
+use Rattle.pdu_fields.specs.declared.pdu.Syntax.{Syntax}
 
 abbrev pub FitsUuid : List ℕ → Type 0
 FitsUuid uuid = length uuid ≡ 16

@@ -1,48 +1,22 @@
 ghost use Rattle.std.specs.Prelude.{◌≡◌, ◌⊎◌, IfOk, IfErr, Ok, Err, None, length};
 ghost use Rattle.dts_base.specs.declared.wire.Field.TheVariants as field;
 ghost use Rattle.dts_base.specs.declared.wire.Refused.{Refused};
-ghost use Rattle.rpc_pdu.specs.declared.pdu.Pdu.{Pdu};
-ghost use Rattle.rpc_pdu.specs.Bodies.{ack_part, bind_part, body_of, context_part, fault_table, nak_table, object_part, protocol_part, request_table, response_table, result_part, syntax_part};
-ghost use Rattle.rpc_pdu.specs.Grammar.{FirstWrong, IsFaultOf, Spells, table_of};
-ghost use Rattle.rpc_pdu.specs.Headers.{exactly, header};
-ghost use Rattle.rpc_pdu.specs.Parsing.{Parses, Reading};
+ghost use Rattle.pdu_fields.specs.declared.pdu.Pdu.{Pdu};
+ghost use Rattle.pdu_fields.specs.Bodies.{ack_part, bind_part, body_of, context_part, fault_table, nak_table, object_part, protocol_part, request_table, response_table, result_part, syntax_part};
+ghost use Rattle.pdu_fields.specs.Grammar.{FirstWrong, IsFaultOf, Spells, table_of};
+ghost use Rattle.pdu_fields.specs.Parsing.{Parses, Reading};
 ghost use Rattle.rpc_pdu.specs.Soundness.{unsound};
-ghost use Rattle.rpc_pdu.specs.Tables.{repeated};
+ghost use Rattle.pdu_fields.specs.Tables.{repeated};
 
-use crate::cursor::Cursor;
-use crate::header::{
-    Header, MAX_CONTEXTS, MAX_MINOR, MAX_REASON, MAX_RESULT, MAX_TRANSFERS, OBJECT_UUID, RPC_VERS,
-};
-use crate::{
-    AckBody, BindBody, Body, Context, ContextResult, ContextResults, Contexts, Pdu, Protocol,
-    Protocols, Ptype, Syntax, Syntaxes,
-};
 use dts_base::Field;
 use ndr::{DecodeFault, Endian};
+use pdu_fields::{
+    AckBody, BindBody, Body, Context, ContextResult, ContextResults, Contexts, Cursor, Header,
+    MAX_CONTEXTS, MAX_REASON, MAX_RESULT, MAX_TRANSFERS, OBJECT_UUID, Pdu, Protocol, Protocols,
+    Ptype, Syntax, Syntaxes,
+};
 use std::alloc::Global;
 use uuid::Uuid;
-
-fn read_header(cursor: &mut Cursor, size: usize) -> Result<Header, DecodeFault>
-    ensures { Reading (header (exactly size)) cursor.old cursor.new result }
-{
-    cursor.octet_between(Field::RpcVers, RPC_VERS, RPC_VERS)?;
-    let minor = cursor.octet_between(Field::RpcVersMinor, 0, MAX_MINOR)?;
-    let ptype = cursor.ptype()?;
-    let flags = cursor.octet(Field::PfcFlags)?;
-    let endian = cursor.order()?;
-    cursor.pass(Field::DrepRest, 3)?;
-    let length = cursor.length(endian, size)?;
-    cursor.u16_between(Field::AuthLength, endian, 0, 0)?;
-    let call_id = cursor.u32(Field::CallId, endian)?;
-    Ok(Header {
-        minor,
-        ptype,
-        flags,
-        endian,
-        length,
-        call_id,
-    })
-}
 
 fn read_syntax(cursor: &mut Cursor, name: Field, endian: Endian) -> Result<Syntax, DecodeFault>
     ensures { Reading (syntax_part endian name) cursor.old cursor.new result }
@@ -287,7 +261,7 @@ fn read_fragment(alloc: Global, b: &[u8]) -> Result<Pdu, DecodeFault>
     ensures { Parses (table_of (length b.now)) (record { at = 0; left = b.now }) result }
 {
     let mut cursor = Cursor::new(b);
-    let header = read_header(&mut cursor, b.len())?;
+    let header = Header::read(&mut cursor, Some(b.len()))?;
     read_body(alloc, &mut cursor, header)
 }
 

@@ -3,7 +3,7 @@
 ghost use Rattle.std.specs.Prelude.{◌≡◌, ◌^◌, ◌<◌, ◌≤◌, ◌∷◌, [], ◌++◌, OnOk, replicate};
 ghost use Rattle.ndr.specs.Numbers.{IsSize, number_octets};
 ghost use Rattle.rpc_pdu.specs.Spelling.{count_octets};
-ghost use Rattle.rpc_pdu.specs.Tables.{in_order};
+ghost use Rattle.pdu_fields.specs.Tables.{in_order};
 
 use dts_base::NoMemory;
 use ndr::Endian;

@@ -4,12 +4,15 @@ ghost use Rattle.std.specs.List.{flat_map};
 ghost use Rattle.rpc_pdu.specs.Soundness.{unsound_ack, unsound_bind, unsound_body, unsound_contexts};
 ghost use Rattle.rpc_pdu.specs.Spelling.{ack_octets, address_octets, bind_octets, body_octets, context_octets, encoding, header_octets, object_octets, protocol_octets, result_octets, order_octet, spelling, syntax_octets, unless_long};
 
+use crate::EncodeFault;
 use crate::draft::{put_count, put_octet, put_octets, put_passed, put_u16, put_u32, put_uuid};
-use crate::header::{BIG_ORDER, HEADER_LENGTH, LITTLE_ORDER, MAX_FRAGMENT, RPC_VERS};
 use crate::soundness::unsound;
-use crate::{AckBody, BindBody, Body, Context, ContextResult, EncodeFault, Pdu, Protocol, Syntax};
 use dts_base::{Bytes, NoMemory};
 use ndr::Endian;
+use pdu_fields::{
+    AckBody, BIG_ORDER, BindBody, Body, Context, ContextResult, HEADER_LENGTH, LITTLE_ORDER,
+    MAX_FRAGMENT, Pdu, Protocol, RPC_VERS, Syntax,
+};
 use std::alloc::Global;
 use uuid::Uuid;
 

@@ -1,7 +1,6 @@
 ghost use Rattle.std.specs.Prelude.{◌≡◌};
 
 use dts_base::{Field, NoMemory};
-use std::alloc::AllocError;
 use thiserror::Error;
 
 /// Why a PDU is not encoded.
@@ -22,16 +21,6 @@ pub enum EncodeFault {
     /// There is no memory.
     #[error("out of memory")]
     NoMemory,
-}
-
-impl From<AllocError> for EncodeFault {
-    ghost use Rattle.rpc_pdu.specs.declared.fault.EncodeFault.TheVariants as fault;
-
-    ghost from_gives = { λ _ f. f ≡ fault.NoMemory };
-
-    fn from(_: AllocError) -> Self {
-        EncodeFault::NoMemory
-    }
 }
 
 impl From<NoMemory> for EncodeFault {

@@ -5,27 +5,19 @@
 //! need memory is passed the allocator.
 #![tactic(auto)]
 
-mod cursor;
 mod decoding;
 mod draft;
 mod encoding;
 mod fault;
-mod header;
-mod kind;
 mod laws;
-mod lists;
-mod pdu;
 mod soundness;
 
 pub use decoding::decode;
 pub use encoding::encode;
 pub use fault::EncodeFault;
-pub use header::{HEADER_LENGTH, MAX_FRAGMENT};
-pub use kind::Ptype;
-pub use laws::{decode_undoes_encode, octets_have_one_reading};
-pub use lists::{ContextResults, Contexts, Protocols, Syntaxes};
+pub use laws::decode_undoes_encode;
 pub use ndr::DecodeFault;
-pub use pdu::{AckBody, BindBody, Body, Context, ContextResult, Pdu, Protocol, Syntax};
-
-#[cfg(test)]
-mod tests;
+pub use pdu_fields::{
+    AckBody, BindBody, Body, Context, ContextResult, ContextResults, Contexts, HEADER_LENGTH,
+    MAX_FRAGMENT, Pdu, Protocol, Protocols, Ptype, Syntax, Syntaxes, octets_have_one_reading,
+};

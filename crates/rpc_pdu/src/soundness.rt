@@ -3,12 +3,11 @@
 ghost use Rattle.std.specs.Prelude.{◌≡◌};
 ghost use Rattle.rpc_pdu.specs.Soundness.{agrees, unsound, unsound_ack, unsound_bind, unsound_body, unsound_contexts, unsound_results};
 
-use crate::header::{
-    MAX_ADDRESS, MAX_CONTEXTS, MAX_MINOR, MAX_PROTOCOLS, MAX_REASON, MAX_RESULT, MAX_TRANSFERS,
-    OBJECT_UUID,
-};
-use crate::{AckBody, BindBody, Body, Context, ContextResult, Pdu};
 use dts_base::Field;
+use pdu_fields::{
+    AckBody, BindBody, Body, Context, ContextResult, MAX_ADDRESS, MAX_CONTEXTS, MAX_MINOR,
+    MAX_PROTOCOLS, MAX_REASON, MAX_RESULT, MAX_TRANSFERS, OBJECT_UUID, Pdu,
+};
 use uuid::Uuid;
 
 /// The first field whose value is not right.

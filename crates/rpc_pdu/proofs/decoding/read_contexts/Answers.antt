@@ -1,7 +1,7 @@
 use Rattle.std.proofs.lemmas.Result.{err_from_is_err_and}
-use Rattle.rpc_pdu.specs.Bodies.{context_part}
-use Rattle.rpc_pdu.specs.Tables.{repeated}
-use Rattle.rpc_pdu.proofs.Parsed.{no_memory}
+use Rattle.pdu_fields.specs.Bodies.{context_part}
+use Rattle.pdu_fields.specs.Tables.{repeated}
+use Rattle.pdu_fields.proofs.Parsed.{no_memory}
 use Rattle.rpc_pdu.proofs.Loops.{none_read, one_more, one_wrong, all_read}
 use Rattle.rpc_pdu.proofs.decoding.read_contexts.Goals as goal
 

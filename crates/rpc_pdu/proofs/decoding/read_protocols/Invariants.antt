@@ -1,5 +1,5 @@
-use Rattle.rpc_pdu.specs.Bodies.{protocol_part}
-use Rattle.rpc_pdu.specs.Parsing.{ReadSoFar}
+use Rattle.pdu_fields.specs.Bodies.{protocol_part}
+use Rattle.pdu_fields.specs.Parsing.{ReadSoFar}
 use Rattle.rpc_pdu.proofs.decoding.read_protocols.Given as goal
 
 abbrev pub invariant-loop-done : goal.invariant-loop-done

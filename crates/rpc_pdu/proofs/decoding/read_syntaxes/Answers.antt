@@ -1,8 +1,8 @@
 use Rattle.std.proofs.lemmas.Result.{err_from_is_err_and}
 use Rattle.dts_base.specs.declared.wire.Field.TheVariants as field
-use Rattle.rpc_pdu.specs.Bodies.{syntax_part}
-use Rattle.rpc_pdu.specs.Tables.{repeated}
-use Rattle.rpc_pdu.proofs.Parsed.{no_memory}
+use Rattle.pdu_fields.specs.Bodies.{syntax_part}
+use Rattle.pdu_fields.specs.Tables.{repeated}
+use Rattle.pdu_fields.proofs.Parsed.{no_memory}
 use Rattle.rpc_pdu.proofs.Loops.{none_read, one_more, one_wrong, all_read}
 use Rattle.rpc_pdu.proofs.decoding.read_syntaxes.Goals as goal
 

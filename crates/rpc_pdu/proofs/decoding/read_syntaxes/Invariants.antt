@@ -1,6 +1,6 @@
 use Rattle.dts_base.specs.declared.wire.Field.TheVariants as field
-use Rattle.rpc_pdu.specs.Bodies.{syntax_part}
-use Rattle.rpc_pdu.specs.Parsing.{ReadSoFar}
+use Rattle.pdu_fields.specs.Bodies.{syntax_part}
+use Rattle.pdu_fields.specs.Parsing.{ReadSoFar}
 use Rattle.rpc_pdu.proofs.decoding.read_syntaxes.Given as goal
 
 abbrev pub invariant-loop-done : goal.invariant-loop-done

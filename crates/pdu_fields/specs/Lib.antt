@@ -1,0 +1,5 @@
+pub mod Tables
+pub mod Headers
+pub mod Bodies
+pub mod Grammar
+pub mod Parsing

@@ -1,0 +1,4 @@
+pub mod Pieces
+pub mod Feeding
+pub mod Calls
+pub mod Standing
