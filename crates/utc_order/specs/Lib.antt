@@ -1,0 +1,10 @@
+pub mod Keeping
+pub mod Kept
+pub mod Laws
+pub mod Lines
+pub mod Marks
+pub mod Orders
+pub mod Placed
+pub mod Places
+pub mod Printing
+pub mod Taking
