@@ -2,6 +2,9 @@
 //! scale beside the proved program. It writes the log of each event by one call, as the proved program does: a log that
 //! stops part-way then ends with a whole line, and whoever follows it sees each line at once. So both pay for one system
 //! call an event, and the ratio of their times tells of the rest.
+mod clock;
+
+use clock::{Anchor, Record, Round};
 use std::fmt::{self, Write as _};
 use std::io::{BufRead, BufReader, Error, ErrorKind, Result, Write, stdin, stdout};
 
@@ -9,121 +12,22 @@ const MAX_LENGTH: usize = 16_384;
 const MAX_OSC: u64 = 1 << 60;
 const MAX_COUNT: u64 = 1 << 61;
 const MAX_TAGS: usize = 64;
-const LEASE: u64 = 40_000_000;
-const GREATEST_SLEW: i64 = 400_000;
-const TOLERANCE: u64 = 6_000_000_000;
-const DRIFT_PPM: u64 = 100;
-const RESOLUTION: u64 = 1;
-const GREATEST_INACCURACY: i64 = (1 << 48) - 2;
 
-fn drift(elapsed: u64) -> u64 {
-    elapsed.div_ceil(1_000_000 / DRIFT_PPM)
-}
-
-fn most(elapsed: u64) -> i64 {
-    (elapsed + drift(elapsed) + RESOLUTION) as i64
-}
-
-fn least(elapsed: u64) -> i64 {
-    elapsed.saturating_sub(drift(elapsed) + RESOLUTION) as i64
-}
-
-fn advance(slew: i64, elapsed: u64) -> i64 {
-    elapsed as i64 + (slew * elapsed as i64).div_euclid(LEASE as i64)
-}
-
-#[derive(Clone, Copy)]
-struct Anchor {
-    osc: u64,
-    lo: i64,
-    hi: i64,
-}
-
-#[derive(Clone, Copy)]
-struct Record {
-    number: u64,
-    step: u64,
-    born: u64,
-    anchor: Option<Anchor>,
-    from: u64,
-    value: i64,
-    slew: i64,
-    next_from: u64,
-    next_slew: i64,
-}
-
-impl Record {
-    fn line(&self, osc: u64) -> i64 {
-        let first = |osc: u64| self.value + advance(self.slew, osc - self.from);
-        if osc < self.next_from {
-            first(osc)
-        } else {
-            first(self.next_from) + advance(self.next_slew, (osc - self.next_from).min(LEASE))
-        }
+fn print(record: &Record, log: &mut String) -> fmt::Result {
+    write!(log, "record {} {} {} ", record.number, record.step, record.born)?;
+    match record.anchor {
+        Some(Anchor { osc, lo, hi }) => write!(log, "{osc} {lo} {hi}")?,
+        None => write!(log, "- - -")?,
     }
-
-    fn interval(&self, osc: u64) -> Option<(i64, i64)> {
-        self.anchor.map(|a| (a.lo + least(osc - a.osc), a.hi + most(osc - a.osc)))
-    }
-
-    fn slew_to_middle(&self, osc: u64, value: i64) -> i64 {
-        self.interval(osc).map_or(0, |(lo, hi)| {
-            ((lo + hi).div_euclid(2) - value).clamp(-GREATEST_SLEW, GREATEST_SLEW)
-        })
-    }
-
-    fn renewed(&self, osc: u64) -> Option<Record> {
-        if osc < self.next_from {
-            return None;
-        }
-        let end = self.next_from + LEASE;
-        let at_end = self.line(end);
-        let (from, value, slew, next_from) = if osc < end {
-            (self.next_from, self.line(self.next_from), self.next_slew, end)
-        } else {
-            (osc, at_end, 0, osc)
-        };
-        let next_slew = self.slew_to_middle(next_from, at_end);
-        Some(Record { number: self.number + 1, born: osc, from, value, slew, next_from, next_slew, ..*self })
-    }
-
-    fn changed(&self, osc: u64, lo: i64, hi: i64) -> Record {
-        let middle = (lo + hi).div_euclid(2);
-        let near = self.anchor.is_some() && middle.abs_diff(self.line(osc)) <= TOLERANCE;
-        let anchored = Record { number: self.number + 1, born: osc, anchor: Some(Anchor { osc, lo, hi }), ..*self };
-        if near {
-            return anchored;
-        }
-        Record { step: self.step + 1, from: osc, value: middle, slew: 0, next_from: osc, next_slew: 0, ..anchored }
-    }
-
-    fn print(&self, log: &mut String) -> fmt::Result {
-        write!(log, "record {} {} {} ", self.number, self.step, self.born)?;
-        match self.anchor {
-            Some(Anchor { osc, lo, hi }) => write!(log, "{osc} {lo} {hi}")?,
-            None => write!(log, "- - -")?,
-        }
-        let Record { from, value, slew, next_from, next_slew, .. } = self;
-        writeln!(log, " {from} {value} {slew} {next_from} {next_slew}")
-    }
-}
-
-struct Answer {
-    tag: u32,
-    asked: u64,
-    got: u64,
-    lo: i64,
-    hi: i64,
+    let Record { from, value, slew, next_from, next_slew, .. } = record;
+    writeln!(log, " {from} {value} {slew} {next_from} {next_slew}")
 }
 
 struct Node {
     current: Record,
     last_sync: u64,
     last_read: u64,
-    asked: Vec<(u32, u64)>,
-    answers: Vec<Answer>,
-    carried: Vec<(i64, i64)>,
-    ends: Vec<(i64, bool)>,
+    round: Round,
 }
 
 impl Node {
@@ -134,11 +38,9 @@ impl Node {
         }
         self.last_read = osc;
         let Record { step, number, .. } = self.current;
-        let value = self.current.line(osc);
-        let inaccuracy = self.current.interval(osc).map(|(lo, hi)| (value - lo).max(hi - value).max(0));
-        match inaccuracy.filter(|i| *i <= GREATEST_INACCURACY) {
-            Some(inaccuracy) => writeln!(log, "reading {osc} {value} {inaccuracy} {step} {number}"),
-            None => writeln!(log, "reading {osc} {value} - {step} {number}"),
+        match self.current.reading(osc) {
+            (value, Some(inaccuracy)) => writeln!(log, "reading {osc} {value} {inaccuracy} {step} {number}"),
+            (value, None) => writeln!(log, "reading {osc} {value} - {step} {number}"),
         }
     }
 
@@ -155,7 +57,7 @@ impl Node {
     fn tick(&mut self, osc: u64, log: &mut String) -> fmt::Result {
         if self.is_live(osc, log)? && let Some(next) = self.current.renewed(osc) {
             self.current = next;
-            next.print(log)?;
+            print(&next, log)?;
         }
         Ok(())
     }
@@ -164,13 +66,13 @@ impl Node {
         if !self.is_live(osc, log)? {
             return Ok(());
         }
-        if self.asked.iter().any(|asked| asked.0 == tag) {
+        if self.round.is_asked(tag) {
             return writeln!(log, "note {osc} - repeated_tag {tag}");
         }
-        if self.asked.len() == MAX_TAGS {
+        if self.round.tags() == MAX_TAGS {
             return writeln!(log, "note {osc} - tags_full {MAX_TAGS}");
         }
-        self.asked.push((tag, osc));
+        self.round.ask(osc, tag);
         Ok(())
     }
 
@@ -178,70 +80,40 @@ impl Node {
         if !self.is_live(osc, log)? {
             return Ok(());
         }
-        let asked = self.asked.iter().find(|asked| asked.0 == tag);
-        match asked.filter(|_| self.answers.iter().all(|answer| answer.tag != tag)) {
-            Some(&(tag, asked)) => self.answers.push(Answer { tag, asked, got: osc, lo, hi }),
-            None => writeln!(log, "note {osc} - unknown_tag {tag}")?,
+        if !self.round.answer(osc, tag, lo, hi) {
+            writeln!(log, "note {osc} - unknown_tag {tag}")?;
         }
         Ok(())
-    }
-
-    // From the least to the greatest point that more than half of the carried intervals hold.
-    fn agreed(&mut self) -> Option<(i64, i64)> {
-        let need = self.carried.len() / 2 + 1;
-        self.ends.clear();
-        self.ends.extend(self.carried.iter().flat_map(|&(lo, hi)| [(lo, false), (hi, true)]));
-        self.ends.sort_unstable();
-        let (mut holding, mut from, mut to) = (0, None, None);
-        for &(end, is_high) in &self.ends {
-            if is_high {
-                if holding >= need {
-                    to = Some(end);
-                }
-                holding -= 1;
-            } else {
-                holding += 1;
-                if holding >= need && from.is_none() {
-                    from = Some(end);
-                }
-            }
-        }
-        from.zip(to)
     }
 
     fn adopt(&mut self, osc: u64, required: usize, log: &mut String) -> fmt::Result {
         if !self.is_live(osc, log)? {
             return Ok(());
         }
-        let n = self.answers.len();
+        let n = self.round.answers.len();
         if n < required {
             writeln!(log, "short {osc} {n} {required}")?;
         } else {
-            self.carried.clear();
-            self.carried.extend(self.answers.iter().map(|a| (a.lo + least(osc - a.got), a.hi + most(osc - a.asked))));
-            match self.agreed() {
+            match self.round.agreed(osc) {
                 Some((lo, hi)) => self.use_interval(osc, lo, hi, log)?,
                 None => writeln!(log, "split {osc} {n}")?,
             }
         }
-        self.asked.clear();
-        self.answers.clear();
+        self.round.clear();
         Ok(())
     }
 
     fn use_interval(&mut self, osc: u64, lo: i64, hi: i64, log: &mut String) -> fmt::Result {
-        writeln!(log, "adopted {osc} {} {lo} {hi}", self.answers.len())?;
-        for (answer, carried) in self.answers.iter().zip(&self.carried) {
-            if carried.1 < lo || hi < carried.0 {
-                writeln!(log, "false {osc} {}", answer.tag)?;
-            }
+        writeln!(log, "adopted {osc} {} {lo} {hi}", self.round.answers.len())?;
+        for answer in self.round.false_ones(lo, hi) {
+            writeln!(log, "false {osc} {}", answer.tag)?;
         }
         let next = self.current.changed(osc, lo, hi);
         if next.step != self.current.step {
             writeln!(log, "step {osc} {} {} {}", next.step, self.current.line(osc), next.value)?;
         }
         self.current = next;
-        next.print(log)
+        print(&next, log)
     }
 }
 
@@ -271,17 +143,8 @@ fn start<'a>(fields: &mut impl Iterator<Item = &'a str>) -> Option<Node> {
         Some("unknown") => None,
         lo => interval(lo, fields).map(|(lo, hi)| Some(Anchor { osc, lo, hi }))?,
     };
-    let current =
-        Record { number: 0, step: 0, born: osc, anchor, from: osc, value, slew: 0, next_from: osc, next_slew: 0 };
-    Some(Node {
-        current,
-        last_sync: osc,
-        last_read: 0,
-        asked: Vec::new(),
-        answers: Vec::new(),
-        carried: Vec::new(),
-        ends: Vec::new(),
-    })
+    let current = Record::first(osc, value, anchor);
+    Some(Node { current, last_sync: osc, last_read: 0, round: Round::default() })
 }
 
 // Takes a line, and puts what it gives into the log. None where the line is refused.
@@ -299,7 +162,7 @@ fn take(line: &[u8], node: &mut Option<Node>, log: &mut String) -> Option<()> {
             return None;
         }
         let new = start(&mut fields)?;
-        new.current.print(log).ok()?;
+        print(&new.current, log).ok()?;
         *node = Some(new);
         return if fields.next().is_none() { Some(()) } else { None };
     };

@@ -1,0 +1,9 @@
+pub mod Around
+pub mod Counting
+pub mod Draws
+pub mod Drilled
+pub mod Laws
+pub mod Made
+pub mod Progress
+pub mod Running
+pub mod Summary
