@@ -4,13 +4,16 @@ use Rattle.dts_base.specs.Streams.{AppendsPart, Wrote}
 use Rattle.dts_base.specs.Told.{Told}
 use Rattle.line_reader.specs.Lines.{lines_of}
 use Rattle.slew_clock.specs.declared.rates.Rates.{Rates}
-use Rattle.dts_program.specs.Commands.{HasAnswered, HasReplayedSafely}
+use Rattle.utc_order.specs.declared.cause.OrderStatus.{OrderStatus}
+use Rattle.utc_order.specs.declared.cause.OrderStatus.TheVariants as order
+use Rattle.utc_order.specs.Orders.{HasOrdered}
+use Rattle.dts_program.specs.Commands.{HasAnswered, HasPutInOrder, HasReplayedSafely}
 use Rattle.line_filter.specs.declared.stop.Stop.{Stop}
 use Rattle.line_filter.specs.declared.stop.Stop.TheVariants as stop
 use Rattle.line_filter.specs.Filters.{Rules, HasFiltered}
 use Rattle.dts_program.specs.declared.status.Status.{Status}
 use Rattle.dts_program.specs.declared.status.Status.TheVariants as status
-use Rattle.dts_program.specs.Statuses.{status_of}
+use Rattle.dts_program.specs.Statuses.{order_status, status_of}
 
 -- what is done was read to its end
 pub read_to_end : {State Cause : Type 0} (rules : Rules State Cause) (from : State) (refused : ℕ → Cause → Status) → ((n : ℕ) (cause : Cause) → refused n cause ≡ status.Done → ⊥)
@@ -58,4 +61,23 @@ nothing_replayed rates before = record {
   end = Err stop.NoMemory;
   is = refl;
   safe = record { text = []; wrote = nothing_wrote before; safe = record { history = None; safe = tt; log = refl } };
+}
+
+-- lines that were put in order were read to their end
+pub ordered_to_end : (octets : List ℕ) (left before now : Option (List ℕ)) (end : OrderStatus) → HasOrdered octets left end before now → order_status end ≡ status.Done → left ≡ Some []
+ordered_to_end octets left before now order.Done has e = has.left_is ∙ ap Some has.orders.1
+ordered_to_end octets left before now (order.Refused n why) has e = absurd cc
+ordered_to_end octets left before now order.ReadFault has e = absurd cc
+ordered_to_end octets left before now order.WriteFault has e = absurd cc
+ordered_to_end octets left before now order.NoMemory has e = absurd cc
+
+pub ordered_or_no_memory : (end : OrderStatus) → (end ≡ order.Done) ⊎ (end ≡ order.NoMemory) → (order_status end ≡ status.Done) ⊎ (order_status end ≡ status.NoMemory)
+ordered_or_no_memory end (inl e) = inl (ap order_status e)
+ordered_or_no_memory end (inr e) = inr (ap order_status e)
+
+pub nothing_ordered : (octets : List ℕ) (left before : Option (List ℕ)) → left ≡ Some octets → HasPutInOrder octets left status.NoMemory before before
+nothing_ordered octets left before there = record {
+  end = order.NoMemory;
+  is = refl;
+  ordered = record { more = octets; left_is = there; text = []; orders = inl refl; wrote = nothing_wrote before };
 }

@@ -1,6 +1,4 @@
 pub mod Numbers
 pub mod Statuses
 pub mod Commands
-pub mod Syntax
-pub mod Words
-pub mod Shapes
+pub mod Built

@@ -4,6 +4,10 @@ use Rattle.line_filter.specs.declared.stop.Stop.{Stop}
 use Rattle.line_filter.specs.declared.stop.Stop.TheVariants as stop
 use Rattle.capture_replay.specs.declared.fault.CaptureFault.{CaptureFault}
 use Rattle.utc_calculator.specs.declared.cause.UtcRefusal.{UtcRefusal}
+use Rattle.event_drill.specs.declared.command.DrillStop.{DrillStop}
+use Rattle.event_drill.specs.declared.command.DrillStop.TheVariants as drill_stop
+use Rattle.utc_order.specs.declared.cause.OrderStatus.{OrderStatus}
+use Rattle.utc_order.specs.declared.cause.OrderStatus.TheVariants as order
 use Rattle.dts_program.specs.declared.status.Status.{Status}
 use Rattle.dts_program.specs.declared.status.Status.TheVariants as status
 use Rattle.dts_program.specs.declared.status.SourceName.TheVariants as source
@@ -25,21 +29,44 @@ capture_status = status_of (λ line fault. status.CaptureRefused line fault.colu
 abbrev pub utc_status : Result (Unit {0}) (Stop UtcRefusal) → Status
 utc_status = status_of (λ line refusal. status.UtcRefused line refusal.column refusal.cause)
 
+-- that of a drill
+abbrev pub drill_status : Result (Unit {0}) DrillStop → Status
+drill_status (Ok done) = status.Done
+drill_status (Err drill_stop.Write) = status.WriteFault sink.Output
+drill_status (Err drill_stop.NoMemory) = status.NoMemory
+
+-- that of the ordering of lines
+abbrev pub order_status : OrderStatus → Status
+order_status order.Done = status.Done
+order_status (order.Refused line cause) = status.OrderRefused line cause
+order_status order.ReadFault = status.ReadFault source.Input
+order_status order.WriteFault = status.WriteFault sink.Output
+order_status order.NoMemory = status.NoMemory
+
 -- the statuses of `replay`
 abbrev pub IsReplayStatus : Status → Type 0
 IsReplayStatus status.Usage = ⊥
 IsReplayStatus (status.UtcRefused line column why) = ⊥
+IsReplayStatus (status.OrderRefused line why) = ⊥
 IsReplayStatus _ = Unit {0}
 
 -- the statuses of `utc`
 abbrev pub IsUtcStatus : Status → Type 0
 IsUtcStatus status.Usage = ⊥
 IsUtcStatus (status.CaptureRefused line column why) = ⊥
+IsUtcStatus (status.OrderRefused line why) = ⊥
 IsUtcStatus _ = Unit {0}
 
--- the statuses of words that ask for the help or for the version
-abbrev pub IsShownStatus : Status → Type 0
-IsShownStatus status.Done = Unit {0}
-IsShownStatus (status.WriteFault which) = Unit {0}
-IsShownStatus status.NoMemory = Unit {0}
-IsShownStatus _ = ⊥
+-- the statuses of `order`
+abbrev pub IsOrderStatus : Status → Type 0
+IsOrderStatus status.Usage = ⊥
+IsOrderStatus (status.CaptureRefused line column why) = ⊥
+IsOrderStatus (status.UtcRefused line column why) = ⊥
+IsOrderStatus _ = Unit {0}
+
+-- the statuses of what reads nothing and writes to the output: `drill`, the help and the version
+abbrev pub IsOutputStatus : Status → Type 0
+IsOutputStatus status.Done = Unit {0}
+IsOutputStatus (status.WriteFault which) = Unit {0}
+IsOutputStatus status.NoMemory = Unit {0}
+IsOutputStatus _ = ⊥

@@ -1,22 +1,27 @@
-ghost use Rattle.std.specs.Prelude.{◌≡◌, ◌⊎◌, ℕ, List, [], Some, Result};
+ghost use Rattle.std.specs.Prelude.{◌≡◌, ◌≤◌, ◌⊎◌, ℕ, List, [], Some, Result};
 ghost use Rattle.dts_base.specs.Causes.{Rose};
 ghost use Rattle.line_reader.specs.Lines.{lines_of};
 ghost use Rattle.line_filter.specs.Filters.{IsValid, RefusesAt};
 ghost use Rattle.utc_calculator.specs.declared.cause.UtcRefusal.{UtcRefusal};
 ghost use Rattle.utc_calculator.specs.Answers.{calculator};
 ghost use Rattle.capture_replay.specs.Capture.{capture, unstarted};
-ghost use Rattle.dts_program.specs.Commands.{HasAnswered, HasReplayedSafely};
-ghost use Rattle.dts_program.specs.Statuses.{IsReplayStatus, IsUtcStatus, capture_status, utc_status};
+ghost use Rattle.event_drill.specs.declared.limits.TheConstants.{MAX_EVENTS};
+ghost use Rattle.utc_order.specs.Taking.{RefusesAt as RefusesLine};
+ghost use Rattle.utc_order.specs.declared.cause.OrderCause.{OrderCause};
+ghost use Rattle.dts_program.specs.Commands.{HasAnswered, HasPutInOrder, HasReplayedSafely, HasSummarised};
+ghost use Rattle.dts_program.specs.Statuses.{IsOrderStatus, IsOutputStatus, IsReplayStatus, IsUtcStatus, capture_status, drill_status, order_status, utc_status};
 ghost use Rattle.dts_program.specs.declared.status.SourceName.{SourceName};
 ghost use Rattle.dts_program.specs.declared.status.SinkName.{SinkName};
 
 use crate::status::{SinkName, SourceName, Status};
 use capture_replay::CaptureFault;
 use dts_base::{Sink, Source};
+use event_drill::DrillStop;
 use line_filter::Stop;
 use slew_clock::Rates;
 use std::alloc::Global;
 use utc_calculator::{UtcRefusal, calculate};
+use utc_order::OrderStatus;
 
 /// Replays a capture at these rates: reads it from the input, and writes the log of its history to the output, the text
 /// of each event as one piece, in bounded memory. It ends at the first line that is refused, or at the end of the input.
@@ -118,5 +123,74 @@ fn utc_status(end: Result<(), Stop<UtcRefusal>>) -> Status
             which: SinkName::Output,
         },
         Err(Stop::NoMemory) => Status::NoMemory,
+    }
+}
+
+/// Makes a capture of so many events from a seed, replays it, and writes one line that counts what its log says, in
+/// bounded memory.
+pub fn drill<O: Sink>(alloc: Global, seed: u32, events: u32, output: &mut O) -> Status
+    requires { events ≤ MAX_EVENTS }
+
+    // What the output holds afterwards is what it held before, and then the summary: the whole of it, a beginning where the output failed, or nothing where memory was missing.
+    ensures summary { HasSummarised seed events result (O.written output.old) (O.written output.new) }
+
+    // It answers a fault exactly where the faults of the output rose.
+    ensures write_fault { (which : SinkName) → result ≡ Status.WriteFault which → (which ≡ SinkName.Output) × Rose (O.faults output.old) (O.faults output.new) }
+    ensures write_kept { ((which : SinkName) → result ≡ Status.WriteFault which → ⊥) → O.faults output.new ≡ O.faults output.old }
+    ensures statuses { IsOutputStatus result }
+{
+    drill_status(event_drill::drill(alloc, seed, events, output))
+}
+
+// The status of a drill that ended or stopped so.
+fn drill_status(end: Result<(), DrillStop>) -> Status
+    ensures { result ≡ drill_status end }
+{
+    match end {
+        Ok(()) => Status::Done,
+        Err(DrillStop::Write) => Status::WriteFault {
+            which: SinkName::Output,
+        },
+        Err(DrillStop::NoMemory) => Status::NoMemory,
+    }
+}
+
+/// Orders the lines of several hosts: reads them from the input, and writes them to the output in their order, each with
+/// its mark. Nothing is written before all lines are read and none is refused.
+pub fn order<I: Source, O: Sink>(alloc: Global, input: &mut I, output: &mut O) -> Status
+    // What the output holds afterwards is what it held before, and then the lines in their order, or the beginning of that where the output failed.
+    ensures ordered { (octets : List ℕ) → I.left input.old ≡ Some octets →
+        HasPutInOrder octets (I.left input.new) result (O.written output.old) (O.written output.new) }
+    ensures read_to_end { result ≡ Status.Done → (octets : List ℕ) → I.left input.old ≡ Some octets → I.left input.new ≡ Some [] }
+
+    // Lines of which none is refused are written, where nothing failed and memory was not missing.
+    ensures complete { (octets : List ℕ) → I.left input.old ≡ Some octets →
+        ((n : ℕ) (cause : OrderCause) → RefusesLine (lines_of octets) n cause → ⊥) →
+        (Rose (I.faults input.old) (I.faults input.new) → ⊥) → (Rose (O.faults output.old) (O.faults output.new) → ⊥) → (result ≡ Status.Done) ⊎ (result ≡ Status.NoMemory) }
+
+    // It answers a fault exactly where the faults of that object rose.
+    ensures read_fault { (which : SourceName) → result ≡ Status.ReadFault which → (which ≡ SourceName.Input) × Rose (I.faults input.old) (I.faults input.new) }
+    ensures write_fault { (which : SinkName) → result ≡ Status.WriteFault which → (which ≡ SinkName.Output) × Rose (O.faults output.old) (O.faults output.new) }
+    ensures read_kept { ((which : SourceName) → result ≡ Status.ReadFault which → ⊥) → I.faults input.new ≡ I.faults input.old }
+    ensures write_kept { ((which : SinkName) → result ≡ Status.WriteFault which → ⊥) → O.faults output.new ≡ O.faults output.old }
+    ensures statuses { IsOrderStatus result }
+{
+    order_status(utc_order::order(alloc, input, output))
+}
+
+// The status of an ordering that ended so.
+fn order_status(end: OrderStatus) -> Status
+    ensures { result ≡ order_status end }
+{
+    match end {
+        OrderStatus::Done => Status::Done,
+        OrderStatus::Refused { line, cause } => Status::OrderRefused { line, cause },
+        OrderStatus::ReadFault => Status::ReadFault {
+            which: SourceName::Input,
+        },
+        OrderStatus::WriteFault => Status::WriteFault {
+            which: SinkName::Output,
+        },
+        OrderStatus::NoMemory => Status::NoMemory,
     }
 }

@@ -5,17 +5,14 @@
 ghost use Rattle.std.specs.Prelude.{◌≡◌, IfOk, vec_len};
 
 mod command;
-mod command_line;
 mod outside;
 mod status;
-mod syntax;
 #[cfg(test)]
 mod tests;
-mod word_laws;
 
-use crate::command_line::{NoCommand, read_words};
 use crate::outside::{Outside, ServeSide, run};
 use crate::status::{SinkName, SourceName, Status};
+use command_words::{NoCommand, read_words};
 use dts_base::{MemoryLink, MemoryOscillator, MemorySink, MemoryWords, NoMemory};
 use dts_edge::{FileSource, ReaderSource, WriterSink};
 use std::alloc::Global;

@@ -8,16 +8,19 @@ ghost use Rattle.utc_calculator.specs.declared.cause.UtcRefusal.{UtcRefusal};
 ghost use Rattle.utc_calculator.specs.Answers.{calculator};
 ghost use Rattle.slew_clock.specs.UsualRates.{usual_rates};
 ghost use Rattle.capture_replay.specs.Capture.{capture, unstarted};
-ghost use Rattle.dts_program.specs.Commands.{HasAnswered, HasReplayedSafely};
-ghost use Rattle.dts_program.specs.Statuses.{IsReplayStatus, IsShownStatus, IsUtcStatus, capture_status, utc_status};
-ghost use Rattle.dts_program.specs.Words.{IsRefused, asks, meaning_of, means};
+ghost use Rattle.utc_order.specs.Taking.{RefusesAt as RefusesLine};
+ghost use Rattle.utc_order.specs.declared.cause.OrderCause.{OrderCause};
+ghost use Rattle.dts_program.specs.Commands.{HasAnswered, HasPutInOrder, HasReplayedSafely, HasSummarised};
+ghost use Rattle.dts_program.specs.Statuses.{IsOrderStatus, IsOutputStatus, IsReplayStatus, IsUtcStatus, capture_status, utc_status};
+ghost use Rattle.command_words.specs.Words.{asks, meaning_of, means};
+ghost use Rattle.dts_program.specs.Built.{IsRefused, ReadsInput};
 ghost use Rattle.dts_program.specs.declared.status.SourceName.{SourceName};
 ghost use Rattle.dts_program.specs.declared.status.SinkName.{SinkName};
 
-use crate::command::{replay, utc};
-use crate::command_line::{CommandLine, NoCommand, read_words};
+use crate::command::{drill, order, replay, utc};
 use crate::status::{SinkName, SourceName, Status};
 use clap::Error as ClapError;
+use command_words::{CommandLine, NoCommand, read_words};
 use dts_base::{Failed, Link, Oscillator, Sink, Source, Words, write_all};
 use slew_clock::Rates;
 use std::alloc::Global;
@@ -59,7 +62,7 @@ pub struct Outside<I, F, O, C, L, K, W> {
 }
 
 /// Runs a command line, the words after the program's name, over the outside that is handed in: `replay`, at the usual
-/// rates, or `utc`. The help and the version are written to the output. Each command has clauses of its own, whose
+/// rates, `utc`, `order` or `drill`. The help and the version are written to the output. Each command has clauses of its own, whose
 /// premise is that the words mean it.
 pub fn run<
     R: Threads + Wait + Sync,
@@ -80,11 +83,12 @@ pub fn run<
     ensures untouched { IsRefused (meaning_of (map string_bytes words.now)) → out.new ≡ out.old }
     ensures others { out.new ≡ record out.old { input = out.new.input; output = out.new.output } }
 
-    // Words that ask for the help or for the version have a text written, and leave the input as it is.
-    ensures shown { meaning_of (map string_bytes words.now) ≡ asks → IsShownStatus result × (out.new.input ≡ out.old.input) × ((text : List ℕ) × Wrote (O.written out.old.output) (O.written out.new.output) text) }
+    // Words that ask for the help or for the version have a text written.
+    ensures shown { meaning_of (map string_bytes words.now) ≡ asks → IsOutputStatus result × ((text : List ℕ) × Wrote (O.written out.old.output) (O.written out.new.output) text) }
 
-    // What a command has done was read to its end.
-    ensures read_to_end { (meaning_of (map string_bytes words.now) ≡ asks → ⊥) → result ≡ Status.Done → (octets : List ℕ) → I.left out.old.input ≡ Some octets → I.left out.new.input ≡ Some [] }
+    // What a command has done that reads the input was read to its end. Other words leave the input as it is.
+    ensures unread { (ReadsInput (meaning_of (map string_bytes words.now)) → ⊥) → out.new.input ≡ out.old.input }
+    ensures read_to_end { ReadsInput (meaning_of (map string_bytes words.now)) → result ≡ Status.Done → (octets : List ℕ) → I.left out.old.input ≡ Some octets → I.left out.new.input ≡ Some [] }
 
     // The log of `replay` is exactly what the rules define, of all lines or of those before the first refused one, and nothing else.
     ensures log { meaning_of (map string_bytes words.now) ≡ means (CommandLine.Replay false) → (octets : List ℕ) → I.left out.old.input ≡ Some octets →
@@ -110,9 +114,22 @@ pub fn run<
         ((n : ℕ) (cause : UtcRefusal) (text : List ℕ) → RefusesAt calculator tt (lines_of octets) n cause text → ⊥) →
         (Rose (I.faults out.old.input) (I.faults out.new.input) → ⊥) → (Rose (O.faults out.old.output) (O.faults out.new.output) → ⊥) → (result ≡ Status.Done) ⊎ (result ≡ Status.NoMemory) }
 
+    // `order` writes the lines of several hosts in their order, each with its mark, and nothing where a line is refused. Lines of which none is refused are written.
+    ensures ordered { meaning_of (map string_bytes words.now) ≡ means CommandLine.Order → (octets : List ℕ) → I.left out.old.input ≡ Some octets →
+        HasPutInOrder octets (I.left out.new.input) result (O.written out.old.output) (O.written out.new.output) }
+    ensures order_complete { meaning_of (map string_bytes words.now) ≡ means CommandLine.Order → (octets : List ℕ) → I.left out.old.input ≡ Some octets →
+        ((n : ℕ) (cause : OrderCause) → RefusesLine (lines_of octets) n cause → ⊥) →
+        (Rose (I.faults out.old.input) (I.faults out.new.input) → ⊥) → (Rose (O.faults out.old.output) (O.faults out.new.output) → ⊥) → (result ≡ Status.Done) ⊎ (result ≡ Status.NoMemory) }
+
+    // `drill` writes the summary of the log of its made capture, and nothing else.
+    ensures drill { (seed events : ℕ) → meaning_of (map string_bytes words.now) ≡ means (CommandLine.Drill seed events) →
+        HasSummarised seed events result (O.written out.old.output) (O.written out.new.output) }
+
     // Each command answers its own statuses.
     ensures replay_statuses { meaning_of (map string_bytes words.now) ≡ means (CommandLine.Replay false) → IsReplayStatus result }
     ensures utc_statuses { meaning_of (map string_bytes words.now) ≡ means CommandLine.Utc → IsUtcStatus result }
+    ensures order_statuses { meaning_of (map string_bytes words.now) ≡ means CommandLine.Order → IsOrderStatus result }
+    ensures drill_statuses { (seed events : ℕ) → meaning_of (map string_bytes words.now) ≡ means (CommandLine.Drill seed events) → IsOutputStatus result }
 
     // A fault is answered exactly where the faults of that object rose: where none is answered they stayed.
     ensures read_fault { (which : SourceName) → result ≡ Status.ReadFault which → (which ≡ SourceName.Input) × Rose (I.faults out.old.input) (I.faults out.new.input) }
@@ -125,6 +142,8 @@ pub fn run<
             replay(alloc, Rates::usual(), &mut out.input, &mut out.output)
         }
         Ok(CommandLine::Utc) => utc(alloc, &mut out.input, &mut out.output),
+        Ok(CommandLine::Order) => order(alloc, &mut out.input, &mut out.output),
+        Ok(CommandLine::Drill { seed, events }) => drill(alloc, seed, events, &mut out.output),
         Err(NoCommand::Shown(text)) => show_text(alloc, &text, &mut out.output),
         Err(NoCommand::NoMemory) => Status::NoMemory,
         Ok(_unbuilt) => Status::Usage,
@@ -136,7 +155,7 @@ pub fn run<
 // Writes the help or the version.
 #[tactic(auto, using(crate::proofs::Ending::nothing_wrote, crate::proofs::Ending::part_wrote))]
 fn show_text<O: Sink>(alloc: Global, shown: &ClapError, output: &mut O) -> Status
-    ensures statuses { IsShownStatus result }
+    ensures statuses { IsOutputStatus result }
     ensures wrote { (text : List ℕ) × Wrote (O.written output.old) (O.written output.new) text }
     ensures write_fault { (which : SinkName) → result ≡ Status.WriteFault which → (which ≡ SinkName.Output) × Rose (O.faults output.old) (O.faults output.new) }
     ensures write_kept { ((which : SinkName) → result ≡ Status.WriteFault which → ⊥) → O.faults output.new ≡ O.faults output.old }

@@ -1,6 +1,7 @@
 use dts_capture::LineCause;
 use thiserror::Error;
 use utc_calculator::UtcCause;
+use utc_order::OrderCause;
 
 /// The sources of the program.
 #[derive(Clone, Copy, Debug, PartialEq, Eq, Error)]
@@ -80,6 +81,14 @@ pub enum Status {
         /// What is wrong with it.
         cause: UtcCause,
     },
+    /// A line to be ordered is refused; nothing was written.
+    #[error("line {line}: {cause}")]
+    OrderRefused {
+        /// Its number, from 1.
+        line: u32,
+        /// What is wrong with it.
+        cause: OrderCause,
+    },
 }
 
 impl Status {
@@ -98,6 +107,7 @@ impl Status {
             Status::WriteFault { .. } => 5,
             Status::NoMemory => 6,
             Status::UtcRefused { .. } => 7,
+            Status::OrderRefused { .. } => 14,
         }
     }
 }

@@ -1,17 +1,19 @@
 ghost use Rattle.std.specs.Prelude.{◌≡◌, IfOk, vec_len};
 
 use crate::command::utc;
-use crate::command_line::{CommandLine, HalfOptions, NoCommand, ShowKind, read_words};
 use crate::outside::{Outside, run};
 use crate::sides;
 use crate::status::{SinkName, SourceName, Status};
+use command_words::{CommandLine, HalfOptions, NoCommand, ShowKind, read_words};
 use dts_base::{
     MemoryLink, MemoryOscillator, MemorySink, MemorySource, MemoryWords, NoMemory, Text,
 };
 use dts_capture::LineCause;
 use std::alloc::{AllocError, Global};
+use std::process::Abort;
 use std::test::Fail;
 use utc_calculator::UtcCause;
+use utc_order::OrderCause;
 use utc_routines::UtcFault;
 use utc_text::{TextFault, TextField};
 
@@ -170,6 +172,15 @@ fn read(alloc: Global, line: &str) -> Result<Result<CommandLine, NoCommand>, All
     Ok(read_words(alloc, words.as_slice()))
 }
 
+// The words of a line mean a command.
+fn mean(rt: &impl Abort, alloc: Global, line: &str, want: CommandLine) -> Result<(), AllocError> {
+    assert!(rt;
+        read(alloc, line)?.is_ok_and(|got| got == want),
+        "at {line:?}"
+    );
+    Ok(())
+}
+
 #[test]
 fn words_mean_their_command(rt: HostRuntime) -> Result<(), Fail> {
     let alloc = rt.alloc();
@@ -183,104 +194,71 @@ fn words_mean_their_command(rt: HostRuntime) -> Result<(), Fail> {
         start: 2_305_561_534_236_983_296,
         inaccuracy: Some(281_474_976_710_654),
     };
-    let text = |octets: &str| Text::from_slice(alloc, octets.as_bytes());
-    for (line, want) in [
-        ("replay", CommandLine::Replay { roster: false }),
-        ("replay --roster", CommandLine::Replay { roster: true }),
-        ("clerk", CommandLine::Clerk(usual)),
-        (
-            "clerk --inaccuracy 281474976710654 --turns 1 --start 2305561534236983296",
-            CommandLine::Clerk(given),
-        ),
-        (
-            "server",
-            CommandLine::Server {
-                options: usual,
-                workers: 1,
-            },
-        ),
-        (
-            "server --workers 4 --start=2305561534236983296 --turns 1 --inaccuracy 281474976710654",
-            CommandLine::Server {
-                options: given,
-                workers: 4,
-            },
-        ),
-        ("utc", CommandLine::Utc),
-        ("show pdu", CommandLine::Show(ShowKind::Pdu)),
-        ("show ntp", CommandLine::Show(ShowKind::Ntp)),
-        ("show utc", CommandLine::Show(ShowKind::Utc)),
-        ("drill 0 0", CommandLine::Drill { seed: 0, events: 0 }),
-        (
-            "drill 4294967295 1000000",
-            CommandLine::Drill {
-                seed: 4_294_967_295,
-                events: 1_000_000,
-            },
-        ),
-        (
-            "control 127.0.0.1:7001 show time",
-            CommandLine::Control {
-                address: text("127.0.0.1:7001")?,
-                command: text("show time")?,
-            },
-        ),
-    ] {
-        assert!(rt;
-            read(alloc, line)?.is_ok_and(|got| got == want),
-            "at {line:?}"
-        );
-    }
+    let command = CommandLine::Replay { roster: true };
+    mean(&rt, alloc, "replay --roster", command)?;
+    mean(&rt, alloc, "clerk", CommandLine::Clerk(usual))?;
+    let line =
+        "server --workers 4 --start=2305561534236983296 --turns 1 --inaccuracy 281474976710654";
+    let command = CommandLine::Server {
+        options: given,
+        workers: 4,
+    };
+    mean(&rt, alloc, line, command)?;
+    mean(&rt, alloc, "show ntp", CommandLine::Show(ShowKind::Ntp))?;
+    let command = CommandLine::Drill {
+        seed: 4_294_967_295,
+        events: 1_000_000,
+    };
+    mean(&rt, alloc, "drill 4294967295 1000000", command)?;
+    let command = CommandLine::Control {
+        address: Text::from_slice(alloc, b"127.0.0.1:7001")?,
+        command: Text::from_slice(alloc, b"show time")?,
+    };
+    mean(&rt, alloc, "control 127.0.0.1:7001 show time", command)?;
     Ok(())
 }
 
+// Words that no command takes, a line each; the first has none.
+const WRONG: &str = "
+x
+Replay
+UTC
+help
+--roster replay
+replay x
+replay utc
+replay --turns 1
+replay --roster --roster
+utc x
+clerk --turns
+clerk --turns 1 --turns 2
+clerk --turns 0
+clerk --turns 281474976710657
+clerk --turns 01
+clerk --turns +1
+clerk --turns -1
+clerk --turns=-1
+clerk --turns 1.0
+clerk --start 2305561534236983297
+clerk --start 18446744073709551616
+clerk --inaccuracy 281474976710655
+clerk --workers 1
+server --workers 0
+server --workers 5
+show
+show x
+show pdu utc
+drill 1
+drill 1 2 3
+drill 00 0
+drill 4294967296 0
+drill 0 1000001
+control
+control 127.0.0.1:7001";
+
 #[test]
 fn wrong_words_are_refused(rt: HostRuntime) -> Result<(), Fail> {
-    for line in [
-        "",
-        "x",
-        "Replay",
-        "UTC",
-        "help",
-        "--roster replay",
-        "replay x",
-        "replay utc",
-        "replay --turns 1",
-        "replay --roster --roster",
-        "utc x",
-        "clerk --turns",
-        "clerk --turns 1 --turns 2",
-        "clerk --turns 0",
-        "clerk --turns 281474976710657",
-        "clerk --turns 01",
-        "clerk --turns +1",
-        "clerk --turns -1",
-        "clerk --turns=-1",
-        "clerk --turns 1.0",
-        "clerk --start 2305561534236983297",
-        "clerk --start 18446744073709551616",
-        "clerk --inaccuracy 281474976710655",
-        "clerk --workers 1",
-        "server --workers 0",
-        "server --workers 5",
-        "show",
-        "show x",
-        "show pdu utc",
-        "drill 1",
-        "drill 1 2 3",
-        "drill 00 0",
-        "drill 4294967296 0",
-        "drill 0 1000001",
-        "control",
-        "control 127.0.0.1:7001",
-    ] {
-        assert!(rt;
-            matches!(
-                read(rt.alloc(), line)?,
-                Err(NoCommand::Refused(_) | NoCommand::Value)
-            ),
-            "at {line:?}"
-        );
+    for line in WRONG.lines() {
         let words = words_of(rt.alloc(), line)?;
         let mut outside = in_memory(rt.alloc(), "start 0 1 unknown")?;
         let got = run(&rt, rt.alloc(), words.as_slice(), &mut outside);
@@ -289,6 +267,21 @@ fn wrong_words_are_refused(rt: HostRuntime) -> Result<(), Fail> {
     }
     Ok(())
 }
+
+// Lines of two hosts, and the same in their order.
+const HOSTS: &str = "0 1970-01-01-00:00:10I1 a
+1 1970-01-01-00:00:05I0 b
+0 1970-01-01-00:00:12I4 c
+";
+
+const ORDERED: &str = "< 1 1970-01-01-00:00:05I0 b
+< 0 1970-01-01-00:00:10I1 a
+~ 0 1970-01-01-00:00:12I4 c
+";
+
+// The summary of `drill 1 1`.
+const DRILLED: &str =
+    "drill seed 1 events 1 records 2 steps 0 readings 0 unspecified 0 adopted 0 split 0 short 0 false 0\n";
 
 #[test]
 fn built_commands_run_and_others_are_usage(rt: HostRuntime) -> Result<(), Fail> {
@@ -301,6 +294,10 @@ fn built_commands_run_and_others_are_usage(rt: HostRuntime) -> Result<(), Fail> 
         line,
         column,
         cause,
+    };
+    let no_host = Status::OrderRefused {
+        line: 2,
+        cause: OrderCause::Host,
     };
     let record = "record 0 0 0 - - - 0 1 0 0 0\n";
     for (line, input, status, want) in [
@@ -325,11 +322,13 @@ fn built_commands_run_and_others_are_usage(rt: HostRuntime) -> Result<(), Fail> 
             word,
             "equalTo\n",
         ),
+        ("order", HOSTS, Status::Done, ORDERED),
+        ("order", "0 1970-01-01-00:00:10I1 a\nx", no_host, ""),
         ("replay --roster", "start 0 1 unknown", Status::Usage, ""),
         ("clerk", "", Status::Usage, ""),
         ("server --workers 2", "", Status::Usage, ""),
         ("show pdu", "05", Status::Usage, ""),
-        ("drill 1 0", "", Status::Usage, ""),
+        ("drill 1 1", "", Status::Done, DRILLED),
         ("control 127.0.0.1:7001 show", "", Status::Usage, ""),
     ] {
         let words = words_of(rt.alloc(), line)?;
@@ -367,69 +366,54 @@ fn help_and_version_go_to_the_output(rt: HostRuntime) -> Result<(), Fail> {
     Ok(())
 }
 
+// A status has this number and this text.
+fn tells(
+    rt: &impl Abort,
+    alloc: Global,
+    status: Status,
+    number: u8,
+    text: &str,
+) -> Result<(), AllocError> {
+    assert_eq!(rt; status.number(), number);
+    assert_eq!(rt; format!(in alloc; "{status}")?.as_str(), text);
+    Ok(())
+}
+
 #[test]
 fn statuses_have_their_numbers_and_texts(rt: HostRuntime) -> Result<(), Fail> {
-    for (status, number, text) in [
-        (Status::Done, 0, "done"),
-        (Status::Usage, 1, "no command; try dts --help"),
-        (
-            Status::CaptureRefused {
-                line: 3,
-                column: 8,
-                cause: LineCause::Range,
-            },
-            2,
-            "line 3, column 8: this number is out of its range: OSC is 0 to 2^60, VALUE, LO and HI 0 to 2^61, \
-             PEER and TAG 0 to 2^32 - 1, CONN 1000 to 2^32 - 1, REQUIRED 1 to 64, K 0 to 2^64 - 1",
-        ),
-        (
-            Status::ReadFault {
-                which: SourceName::Input,
-            },
-            4,
-            "the input can't be read",
-        ),
-        (
-            Status::ReadFault {
-                which: SourceName::RosterFile,
-            },
-            4,
-            "the roster file can't be read",
-        ),
-        (
-            Status::WriteFault {
-                which: SinkName::Output,
-            },
-            5,
-            "the output can't be written",
-        ),
-        (
-            Status::WriteFault {
-                which: SinkName::SyncCapture,
-            },
-            5,
-            "the sync capture can't be written",
-        ),
-        (
-            Status::WriteFault {
-                which: SinkName::ServeLog { worker: 2 },
-            },
-            5,
-            "the serve log 2 can't be written",
-        ),
-        (Status::NoMemory, 6, "out of memory"),
-        (
-            Status::UtcRefused {
-                line: 3,
-                column: 1,
-                cause: UtcCause::Routine(UtcFault::Kinds),
-            },
-            7,
-            "line 3, column 1: no result: the kinds of the operands do not allow it; add takes one moment at most, sub no moment from a length of time, abs and mul a length, tdf a moment, and the others two of one kind",
-        ),
-    ] {
-        assert_eq!(rt; status.number(), number);
-        assert_eq!(rt; format!(in rt.alloc(); "{status}")?.as_str(), text);
-    }
+    let alloc = rt.alloc();
+    tells(&rt, alloc, Status::Done, 0, "done")?;
+    tells(&rt, alloc, Status::Usage, 1, "no command; try dts --help")?;
+    let refused = Status::CaptureRefused {
+        line: 3,
+        column: 8,
+        cause: LineCause::Range,
+    };
+    let text =
+        "line 3, column 8: this number is out of its range: OSC is 0 to 2^60, VALUE, LO and HI 0 to 2^61, \
+                PEER and TAG 0 to 2^32 - 1, CONN 1000 to 2^32 - 1, REQUIRED 1 to 64, K 0 to 2^64 - 1";
+    tells(&rt, alloc, refused, 2, text)?;
+    let which = SourceName::RosterFile;
+    let text = "the roster file can't be read";
+    tells(&rt, alloc, Status::ReadFault { which }, 4, text)?;
+    let which = SinkName::ServeLog { worker: 2 };
+    let text = "the serve log 2 can't be written";
+    tells(&rt, alloc, Status::WriteFault { which }, 5, text)?;
+    tells(&rt, alloc, Status::NoMemory, 6, "out of memory")?;
+    let refused = Status::UtcRefused {
+        line: 3,
+        column: 1,
+        cause: UtcCause::Routine(UtcFault::Kinds),
+    };
+    let text =
+        "line 3, column 1: no result: the kinds of the operands do not allow it; add takes one moment at most, \
+                sub no moment from a length of time, abs and mul a length, tdf a moment, and the others two of one kind";
+    tells(&rt, alloc, refused, 7, text)?;
+    let refused = Status::OrderRefused {
+        line: 2,
+        cause: OrderCause::Backward { earlier: 1 },
+    };
+    let text = "line 2: the line is certainly earlier than line 1, which is of the same host";
+    tells(&rt, alloc, refused, 14, text)?;
     Ok(())
 }

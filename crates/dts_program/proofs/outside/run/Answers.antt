@@ -1,12 +1,13 @@
-use Rattle.std.proofs.Common.{sym, subst}
+use Rattle.std.proofs.Common.{Err, refl, sym, subst}
 use Rattle.line_filter.specs.Filters.{IsValid}
 use Rattle.slew_clock.specs.UsualRates.{usual_rates}
 use Rattle.capture_replay.specs.Capture.{capture, unstarted}
 use Rattle.capture_replay.specs.declared.fault.CaptureFault.{CaptureFault}
 use Rattle.utc_calculator.specs.declared.cause.UtcRefusal.{UtcRefusal}
 use Rattle.utc_calculator.specs.Answers.{calculator}
+use Rattle.event_drill.specs.declared.command.DrillStop.TheVariants as drill_stop
 use Rattle.dts_program.specs.declared.status.Status.TheVariants as status
-use Rattle.dts_program.proofs.Ending.{nothing_answered, nothing_replayed}
+use Rattle.dts_program.proofs.Ending.{nothing_answered, nothing_ordered, nothing_replayed}
 use Rattle.dts_program.proofs.outside.run.Goals as goal
 
 pub returns-in-Ok-Replay-false-clause-complete : goal.returns-in-Ok-Replay-false-clause-complete
@@ -23,3 +24,9 @@ returns-in-Err-NoMemory-clause-safe g c = λ is octets there. nothing_replayed u
 pub returns-in-Err-NoMemory-clause-answers : goal.returns-in-Err-NoMemory-clause-answers
 returns-in-Err-NoMemory-clause-answers g c = λ is octets there.
     nothing_answered calculator tt (λ line (refusal : UtcRefusal). status.UtcRefused line refusal.column refusal.cause) octets _ _ there
+
+pub returns-in-Err-NoMemory-clause-drill : goal.returns-in-Err-NoMemory-clause-drill
+returns-in-Err-NoMemory-clause-drill g c = λ seed events is. record { end = Err drill_stop.NoMemory; is = refl; drilled = refl }
+
+pub returns-in-Err-NoMemory-clause-ordered : goal.returns-in-Err-NoMemory-clause-ordered
+returns-in-Err-NoMemory-clause-ordered g c = λ is octets there. nothing_ordered octets _ _ there

@@ -1,0 +1,12 @@
+pub mod WordFacts
+pub mod FaultKinds
+pub mod Meanings
+pub mod WordRows
+pub mod Entering
+pub mod Leaves
+pub mod PlainValues
+pub mod PlainOptions
+pub mod PlainWalk
+pub mod PlainRows
+pub mod PlainWords
+pub mod PlainPositionals

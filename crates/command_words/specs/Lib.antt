@@ -1,0 +1,4 @@
+pub mod Syntax
+pub mod Words
+pub mod Shapes
+pub mod Plain
