@@ -18,6 +18,3 @@ pub use laws::{
     one_log_of_a_capture,
 };
 pub use node::Node;
-
-#[cfg(test)]
-mod tests;

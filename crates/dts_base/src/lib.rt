@@ -32,6 +32,3 @@ pub use outcome::{Failed, NoMemory};
 pub use sink::{Sink, write_all};
 pub use source::Source;
 pub use wire::{Field, Refused, State, WireCause};
-
-#[cfg(test)]
-mod tests;

@@ -20,6 +20,3 @@ pub use line::{Line, LineCause, LineFault};
 pub use log::{append_action, print_action};
 pub use parse::{is_blank, parse_line, parse_line_at};
 pub use print::print_line;
-
-#[cfg(test)]
-mod tests;

@@ -13,6 +13,3 @@ mod writer_sink;
 pub use file_source::FileSource;
 pub use reader_source::ReaderSource;
 pub use writer_sink::WriterSink;
-
-#[cfg(test)]
-mod tests;

@@ -5,8 +5,6 @@
 
 mod adopting;
 mod laws;
-#[cfg(test)]
-mod tests;
 
 pub use adopting::{Sweep, adopt, is_false};
 pub use laws::{

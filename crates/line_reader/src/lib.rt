@@ -18,6 +18,3 @@ pub use limits::{MAX_LINE, MAX_LINES};
 pub use line_laws::{lines_are_lines, lines_are_taken_in_order, lines_join, lines_of_joined};
 pub use number::{NumberFault, number_in};
 pub use reader::LineReader;
-
-#[cfg(test)]
-mod tests;

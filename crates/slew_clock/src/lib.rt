@@ -11,8 +11,6 @@ mod limits;
 mod rates;
 mod reading;
 mod record;
-#[cfg(test)]
-mod tests;
 
 pub use change::{Range, anchored, carried, changed, renewed, stepped};
 pub use clock::{interval_at, read_at, start};

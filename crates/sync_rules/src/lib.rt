@@ -37,6 +37,3 @@ pub fn readings_are_exact()
     ensures contain { ContainsUpToInaccuracy }
     ensures follow { DoesNotFollowOn }
 {}
-
-#[cfg(test)]
-mod tests;

@@ -20,6 +20,3 @@ pub use line::answer;
 pub use operation::{Operation, Outcome};
 pub use reading::parse;
 pub use results::compute;
-
-#[cfg(test)]
-mod tests;

@@ -19,9 +19,6 @@ pub use comparison::{cmp_interval, cmp_mid};
 pub use intervals::{bound, point, span};
 pub use laws::{no_operands_are_both, one_refusal, one_result};
 
-#[cfg(test)]
-mod tests;
-
 /// Why a routine has no result.
 #[derive(Clone, Copy, Debug, PartialEq, Eq, Error)]
 pub enum UtcFault {

@@ -26,6 +26,3 @@ pub use laws::{
 };
 pub use printing::{print_any, print_gmt, print_rel};
 pub use reading::{parse_abs, parse_rel};
-
-#[cfg(test)]
-mod tests;

@@ -21,9 +21,6 @@ mod laws;
 
 pub use laws::{members_are_from_the_earliest_to_the_latest, one_timestamp_of_octets};
 
-#[cfg(test)]
-mod tests;
-
 /// The greatest inaccuracy that can be stated, in units of 100 ns: 2^48 − 2, about 326 days.
 pub const MAX_INACCURACY: u64 = 281_474_976_710_654;
 

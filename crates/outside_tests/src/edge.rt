@@ -1,5 +1,5 @@
-use crate::*;
 use dts_base::{Failed, Sink, Source, write_all};
+use dts_edge::*;
 use std::alloc::{AllocError, Global};
 use std::fs::{self, File};
 use std::io::{self, ErrorKind, Read, Write};

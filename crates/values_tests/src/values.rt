@@ -1,4 +1,4 @@
-use super::*;
+use utc_value::*;
 
 // 1970-01-01 00:00:00 UTC, which is 141427 days after 1582-10-15.
 const UNIX_EPOCH: i64 = 122_192_928_000_000_000;

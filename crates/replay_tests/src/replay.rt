@@ -1,4 +1,4 @@
-use crate::{CaptureFault, replay};
+use capture_replay::{CaptureFault, replay};
 use dts_base::{MemorySink, MemorySource};
 use dts_capture::LineCause;
 use line_filter::Stop;

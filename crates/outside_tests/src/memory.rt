@@ -1,4 +1,4 @@
-use crate::*;
+use dts_base::*;
 use std::test::Fail;
 
 const ADDRESS: Address = Address {

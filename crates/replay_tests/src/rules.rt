@@ -1,7 +1,7 @@
-use crate::*;
 use dts_base::Interval;
 use slew_clock::{Rates, read_at, start};
 use std::test::Fail;
+use sync_rules::*;
 
 // Where the first interval is wrong, or the oscillator drifts by more than it states, a reading can exclude true
 // time: such worlds are not honest, and no promise covers them.

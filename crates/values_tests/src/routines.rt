@@ -1,5 +1,5 @@
-use super::*;
 use std::process::Abort;
+use utc_routines::*;
 use utc_value::{MAX_INACCURACY, Utc};
 
 // A moment, shown in UTC.

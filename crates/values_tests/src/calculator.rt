@@ -1,9 +1,9 @@
-use super::*;
 use dts_base::{MemorySink, MemorySource};
 use line_filter::{LineFilter, Stop, Unfit};
 use std::alloc::Global;
 use std::process::Abort;
 use std::test::Fail;
+use utc_calculator::*;
 use utc_routines::{Order4, UtcFault};
 use utc_text::{PrintFault, TextFault, TextField};
 use utc_value::{BytesFault, Utc};

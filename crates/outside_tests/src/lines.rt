@@ -1,7 +1,7 @@
 ghost use Rattle.std.specs.Prelude.{None};
 
-use crate::*;
 use dts_base::{Failed, MemorySource, Source};
+use line_reader::*;
 use std::process::Abort;
 use std::test::Fail;
 

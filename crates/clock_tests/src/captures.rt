@@ -1,5 +1,5 @@
-use crate::*;
 use dts_base::{Bytes, Field, Interval, Refused, State, WireCause};
+use dts_capture::*;
 use line_reader::MAX_LINE;
 use slew_clock::{Anchor, ClockRecord, PartA, PartB};
 use std::process::Abort;

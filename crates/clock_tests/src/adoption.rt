@@ -1,8 +1,8 @@
-use crate::{
+use dts_base::{Interval, NoMemory};
+use intersection::{
     Sweep, adopt, false_intervals_lack_true_time, is_false, one_interval_is_adopted,
     points_are_agreed_by_more_than_half, true_time_is_adopted,
 };
-use dts_base::{Interval, NoMemory};
 use std::alloc::{AllocError, Global};
 
 // These intervals, each by its ends.

@@ -2,14 +2,14 @@ ghost use Rattle.std.specs.Prelude.{◌≤◌};
 ghost use Rattle.slew_clock.specs.Record.{IsSound};
 ghost use Rattle.slew_clock.specs.UsualRates.{usual_rates};
 
-use crate::{
+use dts_base::Interval;
+use slew_clock::{
     Anchor, ClockRecord, GREATEST_ANCHOR, GREATEST_INACCURACY, GREATEST_OSC, GREATEST_TIME,
     MILLION, PartA, PartB, Range, RateRange, Rates, Regressed, anchored, carried, changed,
     changes_keep_the_line, elapsed_time_has_bounds, inaccuracies_are_tightest, interval_at,
     next_records_count_up, read_at, readings_hold_true_time, readings_never_fall, renewed,
     right_answers_stay_right, slew_has_a_bound, start, stepped,
 };
-use dts_base::Interval;
 use std::alloc::AllocError;
 use std::process::Abort;
 

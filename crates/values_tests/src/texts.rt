@@ -1,5 +1,5 @@
-use super::*;
 use std::test::Fail;
+use utc_text::*;
 use utc_value::Utc;
 
 const EPOCH: i64 = 122_192_928_000_000_000;
