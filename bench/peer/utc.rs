@@ -1,5 +1,8 @@
 //! A plain calculator of timestamps, for scale beside the proved program. It writes each answer by one call, as the
 //! proved program does, so both pay for one system call a line, and the ratio of their times tells of the rest.
+mod moment;
+
+use moment::{DAY, DAYS_TO_1970, HOUR, Left, MAX_INACCURACY, MINUTE, SECOND, UNSPECIFIED, date_of_days, moment, number_of};
 use std::cmp::Ordering;
 use std::fmt::{Display, Formatter, Write as _};
 use std::io::{BufRead, BufReader, Error, ErrorKind, Write, stdin, stdout};
@@ -7,16 +10,8 @@ use std::io::{BufRead, BufReader, Error, ErrorKind, Write, stdin, stdout};
 const MAX_LENGTH: usize = 16_384;
 const MAX_LINES: u64 = (1 << 32) - 1;
 
-// Times are in units of 100 ns.
-const SECOND: u64 = 10_000_000;
-const MINUTE: u64 = 60 * SECOND;
-const HOUR: u64 = 60 * MINUTE;
-const DAY: u64 = 24 * HOUR;
-
 const MAX_DAYS: u64 = 10_675_199;
 const MAX_TDF: i16 = 1439;
-const MAX_INACCURACY: u64 = UNSPECIFIED - 1;
-const UNSPECIFIED: u64 = (1 << 48) - 1;
 
 enum Fault {
     Line,
@@ -86,126 +81,8 @@ enum Outcome {
     Octets(u128),
 }
 
-// Days from 1970-01-01 to a date. Years begin in March here, so that a leap day is the last of its year.
-fn days_of_date(year: i64, month: i64, day: i64) -> i64 {
-    let year = if month < 3 { year - 1 } else { year };
-    let day_of_year = (153 * ((month + 9) % 12) + 2) / 5 + day - 1;
-    365 * year + year / 4 - year / 100 + year / 400 + day_of_year - 719_468
-}
-
-// The year, month and day that many days after 1970-01-01.
-fn date_of_days(days: i64) -> (i64, i64, i64) {
-    let days = days + 719_468;
-    let (era, day) = (days.div_euclid(146_097), days.rem_euclid(146_097));
-    let year = (day - day / 1460 + day / 36_524 - day / 146_096) / 365;
-    let day_of_year = day - (365 * year + year / 4 - year / 100);
-    let month = (5 * day_of_year + 2) / 153;
-    let day = day_of_year - (153 * month + 2) / 5 + 1;
-    let month = if month < 10 { month + 3 } else { month - 9 };
-    (400 * era + year + i64::from(month < 3), month, day)
-}
-
-fn days_of_month(year: u64, month: u64) -> u64 {
-    match month {
-        2 if year.is_multiple_of(4) && (!year.is_multiple_of(100) || year.is_multiple_of(400)) => 29,
-        2 => 28,
-        4 | 6 | 9 | 11 => 30,
-        _ => 31,
-    }
-}
-
-// Days from 1582-10-15, where times begin, to 1970-01-01.
-const DAYS_TO_1970: i64 = 141_427;
-
-// What is left of a text of a time. Each field is taken from its front.
-struct Left<'a>(&'a [u8]);
-
-impl<'a> Left<'a> {
-    fn skip(&mut self, text: &[u8]) -> bool {
-        let rest = self.0.strip_prefix(text);
-        self.0 = rest.unwrap_or(self.0);
-        rest.is_some()
-    }
-
-    // All the digits that stand there, where they are that many.
-    fn digits(&mut self, least: usize, most: usize) -> Option<&'a [u8]> {
-        let count = self.0.iter().take_while(|octet| octet.is_ascii_digit()).count();
-        let (digits, rest) = self.0.split_at(count);
-        self.0 = rest;
-        (least <= count && count <= most).then_some(digits)
-    }
-
-    fn part(&mut self, separator: &[u8], low: u64, high: u64) -> Option<u64> {
-        if !self.skip(separator) {
-            return None;
-        }
-        let part = number_of(self.digits(2, 2)?);
-        (low <= part && part <= high).then_some(part)
-    }
-
-    fn date(&mut self) -> Option<i64> {
-        let year = number_of(self.digits(4, 4)?);
-        if year < 1582 {
-            return None;
-        }
-        let month = self.part(b"-", 1, 12)?;
-        let day = self.part(b"-", 1, days_of_month(year, month))?;
-        Some(days_of_date(year as i64, month as i64, day as i64))
-    }
-
-    fn fraction(&mut self) -> Option<u64> {
-        if !self.skip(b".") {
-            return Some(0);
-        }
-        let digits = self.digits(0, 7)?;
-        Some(number_of(digits) * 10u64.pow(7 - digits.len() as u32))
-    }
-
-    fn clock(&mut self) -> Option<u64> {
-        let hour = self.part(b"-", 0, 23)?;
-        let minute = self.part(b":", 0, 59)?;
-        let second = self.part(b":", 0, 59)?;
-        Some(hour * HOUR + minute * MINUTE + second * SECOND + self.fraction()?)
-    }
-
-    fn tdf(&mut self) -> Option<i16> {
-        let (sign, separator): (i16, &[u8]) = match self.0.first() {
-            Some(b'+') => (1, b"+"),
-            Some(b'-') => (-1, b"-"),
-            _ => return Some(0),
-        };
-        let hours = self.part(separator, 0, 23)?;
-        let minutes = self.part(b":", 0, 59)?;
-        Some(sign * (hours * 60 + minutes) as i16)
-    }
-
-    // The last field of a text: none inside where it is unspecified.
-    fn inaccuracy(&mut self) -> Option<Option<u64>> {
-        let inaccuracy = if !self.skip(b"I") || self.skip(b"-----") || self.skip(b"inf") {
-            None
-        } else {
-            let seconds = number_of(self.digits(1, 9)?);
-            let units = seconds * SECOND + self.fraction()?;
-            if units > MAX_INACCURACY {
-                return None;
-            }
-            Some(units)
-        };
-        self.0.is_empty().then_some(inaccuracy)
-    }
-}
-
-fn number_of(digits: &[u8]) -> u64 {
-    digits.iter().fold(0, |number, digit| number * 10 + u64::from(digit - b'0'))
-}
-
 fn absolute(text: &[u8]) -> Option<Utc> {
-    let mut left = Left(text);
-    let days = left.date()? + DAYS_TO_1970;
-    let local = days * DAY as i64 + left.clock()? as i64;
-    let tdf = left.tdf()?;
-    let inaccuracy = left.inaccuracy()?;
-    let time = local - i64::from(tdf) * MINUTE as i64;
+    let (time, tdf, inaccuracy) = moment(text)?;
     Some(Utc { kind: Kind::Absolute, time, inaccuracy, tdf })
 }
 
