@@ -1,6 +1,6 @@
 -- A direct round ends: what comes of it, and the state that it leaves.
 use Rattle.std.proofs.Common.{◌⊎◌, inl, inr, lt-ltb, le-ltb, ◌≡◌, ℕ, ◌+◌, ◌<◌, ◌≤◌, true, false, cond, List, [], ◌∷◌, ◌++◌, map, length, Option, rules, refl, sym, ap, ◌∙◌, subst, arith}
-use Rattle.std.specs.Prelude.{ℤ, filter, nat_lt, option_map, int_le, int_lt, ◌||◌, ◌↔◌, ◌≤ℤ◌, Bool, IsTrue}
+use Rattle.std.specs.Prelude.{ℤ, filter, nat_lt, option_map, int_le, ◌↔◌, ◌≤ℤ◌, Bool, IsTrue}
 use Rattle.std.proofs.lemmas.Int.{ints}
 use Rattle.std.proofs.lemmas.List.{length-map, append_assoc}
 use Rattle.dts_base.specs.declared.interval.Interval.{Interval}
@@ -10,16 +10,18 @@ use Rattle.slew_clock.specs.declared.rates.Rates.{Rates}
 use Rattle.slew_clock.specs.declared.record.ClockRecord.{ClockRecord}
 use Rattle.slew_clock.specs.Line.{line}
 use Rattle.slew_clock.specs.Change.{middle_of, changed_record, stepped_record, anchored_record}
-use Rattle.intersection.specs.Adoption.{ends_of, Holds, AreApart}
+use Rattle.intersection.specs.Adoption.{ends_of, AreApart}
 use Rattle.dts_capture.specs.declared.action.Action.{Action}
 use Rattle.dts_capture.specs.declared.action.Action.TheVariants as action
 use Rattle.dts_capture.specs.declared.action.NoteKind.TheVariants as note
 use Rattle.dts_capture.specs.declared.event.Event.{Event}
 use Rattle.dts_capture.specs.declared.event.Event.TheVariants as event
 use Rattle.sync_rules.specs.History.{History, event_osc, current_record, published}
-use Rattle.sync_rules.specs.Rounds.{Short, Adopted, agreed, answers_of, carried_to, outcome, are_apart}
-use Rattle.sync_rules.specs.Rules.{rates_of, outcome_actions, named_false, changes, steps_to, noted}
+use Rattle.sync_rules.specs.Rounds.{answers_of, carried_to, outcome, are_apart}
+use Rattle.clerk.specs.Outcome.{Short, Adopted, agreed}
+use Rattle.sync_rules.specs.Rules.{outcome_actions, named_false, changes, steps_to, noted}
 use Rattle.sync_rules.proofs.Changes.{published-append, notes_publish_none, changes_publish}
+use Rattle.sync_rules.proofs.Concluding.{by_count}
 use Rattle.sync_rules.proofs.Moments.{answers_are}
 use Rattle.sync_rules.proofs.Standing.{outcome_adopted, adopted_in_range}
 use Rattle.capture_replay.specs.declared.node.Node.{Node}
@@ -34,19 +36,19 @@ use Rattle.capture_replay.proofs.Stepping.{live_step}
 
 -- what comes of a round, by the number of its answers
 pub short_round : (round : DirectRound) (rates : Rates) (required osc n : ℕ) → n ≡ length round.answers.items → n < required → Short n required ≡ outcome rates (answers_kept round) required osc
-unfolding outcome
 short_round round rates required osc n is few =
     ap (λ b. cond b (Short n required) (agreed n (adopted (map (carried_to rates osc) (answers_kept round))))) (sym (lt-ltb n required few))
     ∙ ap (λ k. cond (nat_lt k required) (Short k required) (agreed k (adopted (map (carried_to rates osc) (answers_kept round))))) (is ∙ sym (length-map round.answers.items answer_kept))
+    ∙ sym (by_count rates (answers_kept round) required osc)
 
 pub full_round : (round : DirectRound) (rates : Rates) (required osc n : ℕ) (v : List Interval) (o : Option Interval) → n ≡ length round.answers.items → required ≤ n
     → map ends_of v ≡ map (λ a. carried_to rates osc (answer_kept a)) round.answers.items → option_map ends_of o ≡ adopted (map ends_of v)
     → agreed n (option_map ends_of o) ≡ outcome rates (answers_kept round) required osc
-unfolding outcome
 full_round round rates required osc n v o is enough carried found =
     ap (agreed n) (found ∙ ap adopted (carried ∙ sym (map_map answer_kept (carried_to rates osc) round.answers.items)))
     ∙ ap (λ b. cond b (Short n required) (agreed n (adopted (map (carried_to rates osc) (answers_kept round))))) (sym (le-ltb n required enough))
     ∙ ap (λ k. cond (nat_lt k required) (Short k required) (agreed k (adopted (map (carried_to rates osc) (answers_kept round))))) (is ∙ sym (length-map round.answers.items answer_kept))
+    ∙ sym (by_count rates (answers_kept round) required osc)
 
 -- an adopted interval can be an anchor
 pub adoptable : (node : Node) (h : History) (osc required : ℕ) (o : DirectOutcome) → StandsFor node h → osc ≤ GREATEST_OSC

@@ -1,7 +1,6 @@
 -- How many answers a round has, and that each can be carried on.
-use Rattle.std.proofs.Common.{◌≡◌, ◌⊎◌, inl, inr, ℕ, ◌+◌, ◌≤◌, Bool, true, false, cond, List, [], ◌∷◌, ◌++◌, length, map, Option, Some, None, refl, sym, ap, ◌∙◌, subst, arith}
+use Rattle.std.proofs.Common.{◌≡◌, ℕ, ◌+◌, ◌≤◌, Bool, true, false, cond, List, [], ◌∷◌, ◌++◌, length, Option, Some, None, refl, sym, ap, ◌∙◌, subst, arith}
 use Rattle.std.specs.Prelude.{All, find, ◌==◌, ◌||◌, option_map}
-use Rattle.std.specs.List.{list_any}
 use Rattle.std.proofs.lemmas.Bool.{leb-false, eqb-true, eq-eqb}
 use Rattle.std.proofs.lemmas.List.{length-map, length-append}
 use Rattle.std.proofs.lemmas.List.Elements.{All-map, All-weaker}
@@ -12,7 +11,7 @@ use Rattle.dts_capture.specs.declared.event.Event.TheVariants as event
 use Rattle.dts_capture.specs.Grammar.{most_tags}
 use Rattle.sync_rules.specs.History.{History, Begun, Then, Sync}
 use Rattle.sync_rules.specs.Live.{is_live, live_osc}
-use Rattle.sync_rules.specs.Rounds.{Moment, moment_of, Query, Answer, answer_of, is_asked, is_answered, is_full, asked_after, queries_of, open_query, with_answer, answered_after, answers_of}
+use Rattle.sync_rules.specs.Rounds.{Moment, moment_of, Query, Answer, answer_of, is_asked, is_answered, is_full, asked_after, queries_of, with_answer, answered_after, answers_of}
 use Rattle.sync_rules.specs.Ranges.{IsInRange}
 use Rattle.sync_rules.proofs.Choices.{both}
 use Rattle.sync_rules.proofs.Moments.{IsAnswerOf, answers_are}

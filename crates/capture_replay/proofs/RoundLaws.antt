@@ -1,27 +1,24 @@
 -- What a round keeps is what the rules select from a history.
-use Rattle.std.proofs.Common.{◌≡◌, ℕ, Bool, true, false, cond, List, [], ◌∷◌, ◌++◌, length, map, Option, Some, None, refl, sym, ap, ◌∙◌, subst, arith}
+use Rattle.std.proofs.Common.{◌≡◌, ℕ, Bool, true, false, cond, List, [], ◌∷◌, ◌++◌, length, map, Option, Some, None, refl, sym, ap, ◌∙◌}
 use Rattle.std.specs.Prelude.{ℤ, All, filter, find, nat_le, nat_lt, ◌==◌, ◌||◌, option_map, is_some}
-use Rattle.std.specs.List.{list_any, count_by}
-use Rattle.std.proofs.lemmas.Bool.{leb-true, leb-false, eqb-true, eq-eqb}
+use Rattle.std.specs.List.{list_any}
 use Rattle.std.proofs.lemmas.List.{length-map, map-append}
-use Rattle.std.proofs.lemmas.List.Elements.{All-map, All-weaker, All-cons, All-nil, All-head, All-tail}
-use Rattle.std.proofs.lemmas.List.Sums.{count_by-le-length, sum_by-append}
-use Rattle.std.proofs.lemmas.List.Folds.{list_any-append}
+use Rattle.std.proofs.lemmas.List.Elements.{All-cons, All-nil, All-head, All-tail}
 use Rattle.slew_clock.specs.declared.rates.Rates.{Rates}
 use Rattle.slew_clock.specs.declared.record.ClockRecord.{ClockRecord}
 use Rattle.dts_base.specs.declared.interval.Interval.{Interval}
-use Rattle.dts_capture.specs.declared.action.Action.{Action}
-use Rattle.dts_capture.specs.declared.action.Action.TheVariants as action
 use Rattle.dts_capture.specs.declared.action.FalseSource.TheVariants as source
 use Rattle.dts_capture.specs.declared.action.NoteKind.TheVariants as note
 use Rattle.dts_capture.specs.declared.event.Event.{Event}
 use Rattle.dts_capture.specs.declared.event.Event.TheVariants as event
 use Rattle.dts_capture.specs.Grammar.{most_tags}
 use Rattle.intersection.specs.Adopted.{adopted}
-use Rattle.sync_rules.specs.History.{History, Begun, Then, event_osc}
+use Rattle.sync_rules.specs.History.{History, event_osc}
 use Rattle.sync_rules.specs.Live.{is_live}
-use Rattle.sync_rules.specs.Rounds.{Moment, moment_of, Query, Answer, Outcome, Short, Split, Adopted, agreed, answer_of, is_asked, is_answered, is_full, asked_after, queries_of, open_query, with_answer, answered_after, answers_of, carried_to, outcome, are_apart}
-use Rattle.sync_rules.specs.Rules.{live_actions, followed_by, named_false, outcome_actions, changes, noted, event_peer}
+use Rattle.sync_rules.specs.Rounds.{Moment, moment_of, Query, Answer, answer_of, is_asked, is_answered, is_full, asked_after, queries_of, open_query, with_answer, answered_after, answers_of, carried_to, outcome, are_apart}
+use Rattle.clerk.specs.Outcome.{Outcome, Waiting, Short, Split, Adopted, agreed}
+use Rattle.sync_rules.proofs.Concluding.{by_count}
+use Rattle.sync_rules.specs.Rules.{live_actions, followed_by, named_false, outcome_actions, changes, noted}
 use Rattle.capture_replay.specs.declared.round.AskedTag.{AskedTag}
 use Rattle.capture_replay.specs.declared.round.TagAnswer.{TagAnswer}
 use Rattle.capture_replay.specs.declared.round.DirectRound.{DirectRound}
@@ -220,10 +217,11 @@ carried_same : (rates : Rates) (osc : ℕ) (answers : List Answer) → map (carr
 carried_same rates osc answers = map_map without_place (carried_to rates osc) answers
 
 outcome_placeless : (rates : Rates) (answers : List Answer) (required osc : ℕ) → outcome rates (map without_place answers) required osc ≡ outcome rates answers required osc
-unfolding outcome
 outcome_placeless rates answers required osc =
-    ap (λ n. cond (nat_lt n required) (Short n required) (agreed n (adopted (map (carried_to rates osc) (map without_place answers))))) (length-map answers without_place)
+    by_count rates (map without_place answers) required osc
+    ∙ ap (λ n. cond (nat_lt n required) (Short n required) (agreed n (adopted (map (carried_to rates osc) (map without_place answers))))) (length-map answers without_place)
     ∙ ap (λ xs. cond (nat_lt (length answers) required) (Short (length answers) required) (agreed (length answers) (adopted xs))) (carried_same rates osc answers)
+    ∙ sym (by_count rates answers required osc)
 
 named_placeless : (e : Event) (rates : Rates) (answers : List Answer) (i : ℤ × ℤ) → named_false e rates (map without_place answers) i ≡ named_false e rates answers i
 named_placeless e rates answers i =
@@ -236,6 +234,7 @@ outcome_same round h rates required osc s = ap (λ xs. outcome rates xs required
 
 actions_placeless : (e : Event) (rates : Rates) (rec : ClockRecord) (answers : List Answer) (o : Outcome)
     → outcome_actions e rates rec (map without_place answers) o ≡ outcome_actions e rates rec answers o
+actions_placeless e rates rec answers (Waiting n deadline) = refl
 actions_placeless e rates rec answers (Short n required) = refl
 actions_placeless e rates rec answers (Split n) = refl
 actions_placeless e rates rec answers (Adopted n i) = ap (λ xs. noted e (note.Adopted n i.0 i.1) ∷ xs ++ changes e rates rec i) (named_placeless e rates answers i)

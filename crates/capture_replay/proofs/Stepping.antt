@@ -1,5 +1,5 @@
 -- The steps of a node, by the rules.
-use Rattle.std.proofs.Common.{Vec, Global, ◌≡◌, ℕ, ◌+◌, ◌<◌, ◌≤◌, cond, Bool, true, false, List, [], ◌∷◌, Option, Some, None, refl, sym, ap, ◌∙◌, subst, arith}
+use Rattle.std.proofs.Common.{Vec, Global, ◌≡◌, ℕ, ◌<◌, ◌≤◌, cond, Bool, true, false, List, [], ◌∷◌, Some, None, refl, sym, ap, ◌∙◌, subst, arith}
 use Rattle.std.specs.Prelude.{nat_le, ◌&&◌, is_some, Result, Ok, Err, IfOk}
 use Rattle.slew_clock.specs.declared.reading.Reading.{Reading}
 use Rattle.std.proofs.lemmas.Bool.{leb-true, leb-false}
@@ -13,9 +13,8 @@ use Rattle.dts_capture.specs.declared.event.Event.{Event}
 use Rattle.dts_capture.specs.declared.event.Event.TheVariants as event
 use Rattle.dts_capture.specs.declared.action.Action.{Action}
 use Rattle.dts_capture.specs.declared.action.Action.TheVariants as action
-use Rattle.dts_capture.specs.declared.action.NoteKind.{NoteKind}
 use Rattle.dts_capture.specs.declared.action.NoteKind.TheVariants as note
-use Rattle.sync_rules.specs.History.{History, Part, Sync, Lane, event_part, event_osc, current_record, published}
+use Rattle.sync_rules.specs.History.{History, Sync, Lane, event_part, event_osc, current_record, published}
 use Rattle.sync_rules.specs.Live.{floor_at, floor_of, is_live, live_osc, same_part}
 use Rattle.sync_rules.specs.Ranges.{IsTime, IsEventInRange}
 use Rattle.sync_rules.specs.Rounds.{queries_of, answers_of, is_asked, is_full, open_query}
@@ -23,7 +22,7 @@ use Rattle.sync_rules.proofs.Choices.{both}
 use Rattle.sync_rules.specs.Rules.{actions_of, followed_by, live_actions, regressed_actions, publication, rates_of, closes, event_peer}
 use Rattle.sync_rules.proofs.Moments.{sync_live}
 use Rattle.sync_rules.proofs.Safe.{read_keeps}
-use Rattle.sync_rules.proofs.Standing.{Stands, stands}
+use Rattle.sync_rules.proofs.Standing.{stands}
 use Rattle.dts_base.specs.declared.interval.Interval.{Interval}
 use Rattle.dts_base.specs.declared.outcome.NoMemory.{NoMemory}
 use Rattle.capture_replay.specs.declared.node.Node.{Node}

@@ -1,5 +1,5 @@
 -- Each line of a capture is taken or refused.
-use Rattle.std.proofs.Common.{◌≡◌, ◌⊎◌, inl, inr, ℕ, zero, suc, Bool, true, false, List, [], ◌∷◌, ◌++◌, Option, Some, None, refl, sym, ap, ◌∙◌, subst}
+use Rattle.std.proofs.Common.{◌≡◌, ◌⊎◌, inl, inr, ℕ, Bool, true, false, List, [], ◌∷◌, ◌++◌, Option, Some, None, refl, sym, ap, ◌∙◌}
 use Rattle.std.specs.Prelude.{◌==◌, codes, flat_map}
 use Rattle.std.proofs.lemmas.Bool.{eqb-true, eqb-false}
 use Rattle.std.proofs.lemmas.List.{append-nil}
@@ -9,14 +9,13 @@ use Rattle.dts_capture.specs.declared.event.Event.{Event}
 use Rattle.dts_capture.specs.declared.line.Line.{Line}
 use Rattle.dts_capture.specs.declared.line.Line.TheVariants as line
 use Rattle.dts_capture.specs.declared.line.LineCause.TheVariants as cause
-use Rattle.dts_capture.specs.Grammar.{Fault}
 use Rattle.dts_capture.specs.Log.{log_text}
-use Rattle.dts_capture.specs.Spelling.{is_blank, Spells, IsWrongAt}
+use Rattle.dts_capture.specs.Spelling.{is_blank, Spells}
 use Rattle.dts_capture.proofs.EachLine.{each_line}
 use Rattle.sync_rules.specs.History.{History, Begun, given_at}
 use Rattle.sync_rules.specs.Rules.{actions_of, followed_by}
 use Rattle.capture_replay.specs.declared.fault.CaptureFault.{CaptureFault}
-use Rattle.capture_replay.specs.Capture.{Replayed, capture, Takes, Refuses, IsMisplaced, SaysStart, current_number, log_so_far, is_built, at_first}
+use Rattle.capture_replay.specs.Capture.{Replayed, capture, Takes, Refuses, IsMisplaced, current_number, log_so_far, is_built, at_first}
 use Rattle.capture_replay.proofs.Taking.{begun_log, followed_log, start_fits, event_fits}
 
 same_word : (xs ys : List ℕ) → (xs ≡ ys) ⊎ (xs ≡ ys → ⊥)

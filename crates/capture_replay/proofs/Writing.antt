@@ -1,17 +1,14 @@
 -- A printed capture is a valid one, and its log is that of the history.
-use Rattle.std.proofs.Common.{◌≡◌, ◌⊎◌, inl, inr, ℕ, ◌+◌, ◌<◌, ◌≤◌, true, List, [], ◌∷◌, ◌++◌, length, map, Option, Some, None, refl, sym, ap, ◌∙◌, subst, arith}
-use Rattle.std.specs.Prelude.{All, codes, flat_map}
+use Rattle.std.proofs.Common.{◌≡◌, inl, inr, ℕ, ◌≤◌, true, List, [], ◌∷◌, ◌++◌, length, map, Option, Some, None, refl, sym, ap, ◌∙◌, subst, arith}
+use Rattle.std.specs.Prelude.{All, flat_map}
 use Rattle.std.proofs.lemmas.List.{append-nil, append_assoc, length-map}
 use Rattle.std.proofs.lemmas.List.Elements.{All-head, All-tail}
 use Rattle.slew_clock.specs.declared.rates.Rates.{Rates}
-use Rattle.line_reader.specs.declared.limits.TheConstants.{MAX_LINE, MAX_LINES}
 use Rattle.line_reader.specs.Lines.{lines_of, AreLines, joined}
 use Rattle.line_reader.proofs.LineFacts.{lines_of-nothing, lines_of-joined}
 use Rattle.line_filter.specs.Filters.{TakesEach, IsValid}
 use Rattle.dts_capture.specs.declared.event.Event.{Event}
 use Rattle.dts_capture.specs.declared.event.Event.TheVariants as event
-use Rattle.dts_capture.specs.declared.line.Line.{Line}
-use Rattle.dts_capture.specs.declared.line.Line.TheVariants as line
 use Rattle.dts_capture.specs.Log.{log_text}
 use Rattle.dts_capture.specs.Printing.{line_text}
 use Rattle.dts_capture.specs.Ranges.{IsLineInRange, IsSpellable, octets_of, most_octets}
@@ -21,7 +18,7 @@ use Rattle.dts_capture.proofs.Lengths.{fits}
 use Rattle.dts_capture.proofs.LineTexts.{spelled, printed_is_line}
 use Rattle.sync_rules.specs.History.{History, Begun, Start, Settings, given_at, log_of}
 use Rattle.sync_rules.specs.Rules.{actions_of, followed_by, extended}
-use Rattle.capture_replay.specs.Capture.{Replayed, capture, unstarted, Takes, IsMisplaced, SaysStart, current_number, log_so_far, is_built}
+use Rattle.capture_replay.specs.Capture.{Replayed, capture, unstarted, Takes, IsMisplaced, current_number, is_built}
 use Rattle.capture_replay.specs.Written.{IsWritable, start_line, event_line, written, history_of}
 use Rattle.capture_replay.proofs.Taking.{begun_log, followed_log, says_kind}
 

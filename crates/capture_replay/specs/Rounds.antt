@@ -1,7 +1,6 @@
 -- How a node keeps a direct round: the positions of its moments are left out, since nothing that a round gives depends on them.
 use Rattle.std.specs.Prelude.{◌≡◌, ◌==◌, ℕ, ◌≤◌, ℤ, pos, ◌≤ℤ◌, if◌then◌else◌, true, All, List, map, filter, find, Option, None, option_map}
 use Rattle.std.specs.List.{list_any}
-use Rattle.dts_base.specs.declared.interval.Interval.{Interval}
 use Rattle.intersection.specs.Adoption.{ends_of}
 use Rattle.slew_clock.specs.declared.limits.TheConstants.{GREATEST_TIME}
 use Rattle.dts_capture.specs.declared.action.Action.{Action}
@@ -12,7 +11,8 @@ use Rattle.dts_capture.specs.declared.action.NoteKind.TheVariants as note
 use Rattle.dts_capture.specs.declared.action.FalseSource.TheVariants as source
 use Rattle.sync_rules.specs.History.{History}
 use Rattle.sync_rules.specs.Live.{is_live}
-use Rattle.sync_rules.specs.Rounds.{Moment, Query, Answer, Outcome, Short, Split, Adopted, queries_of, answers_of, carried_to, are_apart}
+use Rattle.sync_rules.specs.Rounds.{Moment, Query, Answer, queries_of, answers_of, carried_to, are_apart}
+use Rattle.clerk.specs.Outcome.{Outcome, Short, Split, Adopted}
 use Rattle.sync_rules.specs.Rules.{live_actions, followed_by}
 use Rattle.capture_replay.specs.Notes.{noted_at}
 use Rattle.capture_replay.specs.declared.round.AskedTag.{AskedTag}

@@ -6,7 +6,7 @@ use Rattle.dts_capture.specs.declared.event.Event.TheVariants as event
 use Rattle.sync_rules.specs.History.{History, Sync, Lane, current_record}
 use Rattle.sync_rules.specs.Live.{live_osc}
 use Rattle.sync_rules.specs.Ranges.{IsInRange}
-use Rattle.sync_rules.specs.Rounds.{Outcome}
+use Rattle.clerk.specs.Outcome.{Outcome}
 use Rattle.sync_rules.specs.Rules.{IsRuled, rates_of, actions_of, followed_by, outcome_actions}
 use Rattle.capture_replay.specs.declared.node.Node.{Node}
 use Rattle.capture_replay.specs.Rounds.{RoundStands, answers_kept}

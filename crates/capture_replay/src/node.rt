@@ -7,7 +7,7 @@ ghost use Rattle.slew_clock.specs.Change.{IsInRange};
 ghost use Rattle.dts_capture.specs.declared.event.Event.TheVariants as event;
 ghost use Rattle.intersection.specs.Adoption.{ends_of};
 ghost use Rattle.sync_rules.specs.History.{History, Begun, published};
-ghost use Rattle.sync_rules.specs.Rounds.{Adopted};
+ghost use Rattle.clerk.specs.Outcome.{Adopted};
 ghost use Rattle.sync_rules.specs.Ranges.{IsTime, IsEventInRange, StartsInRange};
 ghost use Rattle.capture_replay.specs.Notes.{noted_at};
 

@@ -15,7 +15,8 @@ use Rattle.dts_capture.specs.declared.action.FalseSource.TheVariants as source
 use Rattle.dts_capture.specs.Grammar.{most_tags}
 use Rattle.sync_rules.specs.History.{History, current_record, event_osc}
 use Rattle.sync_rules.specs.Live.{is_live}
-use Rattle.sync_rules.specs.Rounds.{Answer, Outcome, Short, Split, Adopted, is_asked, is_full, queries_of, answers_of, open_query, outcome, are_apart, carried_to}
+use Rattle.sync_rules.specs.Rounds.{Answer, is_asked, is_full, queries_of, answers_of, open_query, outcome, are_apart, carried_to}
+use Rattle.clerk.specs.Outcome.{Outcome, Waiting, Short, Split, Adopted}
 use Rattle.sync_rules.specs.Rules.{actions_of, live_actions, regressed_actions, outcome_actions, publication, named_false, changes, steps_to, rates_of, noted}
 use Rattle.sync_rules.proofs.Choices.{both}
 use Rattle.capture_replay.specs.Rounds.{without_place, answer_kept}
@@ -35,6 +36,7 @@ changes_few e rates rec i =
 
 outcome_few : (e : Event) (rates : Rates) (rec : ClockRecord) (answers : List Answer) (o : Outcome)
     → length answers ≤ most_tags → length (outcome_actions e rates rec answers o) ≤ most_actions
+outcome_few e rates rec answers (Waiting unanswered deadline) few = omega arith
 outcome_few e rates rec answers (Short answered required) few = omega arith
 outcome_few e rates rec answers (Split n) few = omega arith
 outcome_few e rates rec answers (Adopted n i) few =

@@ -21,7 +21,8 @@ use Rattle.dts_capture.specs.declared.action.FalseSource.TheVariants as source
 use Rattle.sync_rules.specs.History.{History, Begun, Sync, Lane, event_part, event_osc, first_record, current_record}
 use Rattle.sync_rules.specs.Live.{floor_at, is_live, live_osc, same_part}
 use Rattle.sync_rules.specs.Ranges.{IsEventInRange, IsInRange}
-use Rattle.sync_rules.specs.Rounds.{Query, Answer, Outcome, Short, Split, Adopted, moment_of, answer_of, is_asked, is_answered, is_full, asked_after, answered_after, with_answer, queries_of, answers_of, open_query, outcome, are_apart, carried_to}
+use Rattle.sync_rules.specs.Rounds.{Query, Answer, moment_of, answer_of, is_asked, is_answered, is_full, asked_after, answered_after, with_answer, queries_of, answers_of, open_query, outcome, are_apart, carried_to}
+use Rattle.clerk.specs.Outcome.{Outcome, Waiting, Short, Split, Adopted}
 use Rattle.sync_rules.specs.Rules.{actions_of, live_actions, regressed_actions, followed_by, extended, outcome_actions, publication, named_false, changes, steps_to, rates_of, noted, reading_of, IsRuled}
 use Rattle.sync_rules.proofs.Choices.{both}
 use Rattle.sync_rules.proofs.Standing.{stands}
@@ -270,6 +271,7 @@ always (x ∷ xs) = All-cons (λ (_ : Answer). Unit {0}) x xs tt (always xs)
 
 outcome_counted : (e : Event) (rates : Rates) (rec : ClockRecord) (answers : List Answer) (o : Outcome)
     → AllCounted (outcome_actions e rates rec answers o)
+outcome_counted e rates rec answers (Waiting unanswered deadline) = All-nil IsCounted
 outcome_counted e rates rec answers (Short answered required) = one (noted e (note.Short answered required)) tt
 outcome_counted e rates rec answers (Split n) = one (noted e (note.Split n)) tt
 outcome_counted e rates rec answers (Adopted n i) =

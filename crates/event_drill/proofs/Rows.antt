@@ -5,6 +5,7 @@ use Rattle.slew_clock.specs.Line.{line}
 use Rattle.slew_clock.specs.Reading.{interval_of, inaccuracy_of}
 use Rattle.sync_rules.specs.History.{current_record}
 use Rattle.sync_rules.specs.Live.{live_osc}
+use Rattle.clerk.specs.Outcome.{concluded}
 use Rattle.sync_rules.specs.Rounds.{queries_of, answers_of, outcome}
 use Rattle.sync_rules.specs.Rules.{actions_of}
 use Rattle.event_drill.specs.declared.counts.Counts.{Counts}
@@ -84,19 +85,19 @@ no_event_has_one_record : summary 1 0 ≡ counts 1 0 0 0 0
 no_event_has_one_record = refl
 
 one_tick_has_two : summary 1 1 ≡ counts 2 0 0 0 0
-unfolding next_word drawn_below made actions_of current_record live_osc line interval_of inaccuracy_of queries_of answers_of outcome
+unfolding next_word drawn_below made actions_of current_record live_osc line interval_of inaccuracy_of queries_of answers_of outcome concluded
 one_tick_has_two = refl
 
 eight_events_have_five_readings : summary 1 8 ≡ counts 2 0 5 0 0
-unfolding next_word drawn_below made actions_of current_record live_osc line interval_of inaccuracy_of queries_of answers_of outcome
+unfolding next_word drawn_below made actions_of current_record live_osc line interval_of inaccuracy_of queries_of answers_of outcome concluded
 eight_events_have_five_readings = refl
 
 -- one of three answers is false
 false_source_is_named : summary 30272 7 ≡ counts 2 0 0 1 1
-unfolding next_word drawn_below made actions_of current_record live_osc line interval_of inaccuracy_of queries_of answers_of outcome
+unfolding next_word drawn_below made actions_of current_record live_osc line interval_of inaccuracy_of queries_of answers_of outcome concluded
 false_source_is_named = refl
 
 -- two of three are, and the clock steps to them
 two_false_sources_step_the_clock : summary 64273 9 ≡ counts 2 1 2 1 1
-unfolding next_word drawn_below made actions_of current_record live_osc line interval_of inaccuracy_of queries_of answers_of outcome
+unfolding next_word drawn_below made actions_of current_record live_osc line interval_of inaccuracy_of queries_of answers_of outcome concluded
 two_false_sources_step_the_clock = refl

@@ -22,7 +22,8 @@ use Rattle.dts_capture.specs.declared.event.Event.TheVariants as event
 use Rattle.dts_capture.specs.declared.action.Action.{Action}
 use Rattle.sync_rules.specs.History.{History, Begun, Then, Sync, Start, Settings, event_part, event_osc, settings_of, part_of, osc_of, current_record, IsPositionOf}
 use Rattle.sync_rules.specs.Live.{is_live}
-use Rattle.sync_rules.specs.Rounds.{Answer, Adopted, Moment, answers_of, carried_to, outcome}
+use Rattle.sync_rules.specs.Rounds.{Answer, Moment, answers_of, carried_to, outcome}
+use Rattle.clerk.specs.Outcome.{Adopted}
 use Rattle.sync_rules.specs.Rules.{rates_of, IsRuled}
 use Rattle.sync_rules.specs.Ranges.{IsInRange}
 use Rattle.sync_rules.specs.World.{World, time_at, AreComparable, KeepsDrift, IsRightFirst, is_right, IsMostlyRight, adopts_from, if_adopted, IsHonest}

@@ -13,7 +13,8 @@ use Rattle.dts_capture.specs.declared.action.NoteKind.TheVariants as note
 use Rattle.dts_capture.specs.declared.action.FalseSource.TheVariants as source
 use Rattle.sync_rules.specs.History.{History, Then, Sync, event_part, event_osc, published, current_record}
 use Rattle.sync_rules.specs.Live.{is_live}
-use Rattle.sync_rules.specs.Rounds.{Answer, Outcome, Short, Split, Adopted, queries_of, answers_of, is_asked, is_full, open_query, carried_to, are_apart, outcome}
+use Rattle.sync_rules.specs.Rounds.{Answer, queries_of, answers_of, is_asked, is_full, open_query, carried_to, are_apart, outcome}
+use Rattle.clerk.specs.Outcome.{Outcome, Waiting, Short, Split, Adopted}
 use Rattle.sync_rules.specs.Rules.{rates_of, actions_of, live_actions, regressed_actions, outcome_actions, named_false, changes, steps_to, publication, noted, closes}
 use Rattle.sync_rules.proofs.Choices.{both}
 
@@ -43,6 +44,7 @@ changes_publish e rates rec i =
 
 outcome_publishes : (h : History) (e : Event) (required : ℕ) (o : Outcome) → is_live h e ≡ true → e ≡ event.Adopt (event_osc e) required
     → outcome (rates_of h) (answers_of h) required (event_osc e) ≡ o → Change h e (published (current_record h) (outcome_actions e (rates_of h) (current_record h) (answers_of h) o))
+outcome_publishes h e required (Waiting u d) live is comes = same refl
 outcome_publishes h e required (Short a r) live is comes = same refl
 outcome_publishes h e required (Split n) live is comes = same refl
 outcome_publishes h e required (Adopted n i) live is comes =

@@ -12,7 +12,8 @@ use Rattle.dts_capture.specs.declared.action.NoteKind.TheVariants as note
 use Rattle.dts_capture.specs.declared.action.FalseSource.TheVariants as source
 use Rattle.sync_rules.specs.History.{History, event_osc, current_record}
 use Rattle.sync_rules.specs.Live.{is_live}
-use Rattle.sync_rules.specs.Rounds.{Answer, Outcome, Short, Split, Adopted, queries_of, answers_of, is_asked, is_full, open_query, carried_to, are_apart, outcome}
+use Rattle.sync_rules.specs.Rounds.{Answer, queries_of, answers_of, is_asked, is_full, open_query, carried_to, are_apart, outcome}
+use Rattle.clerk.specs.Outcome.{Outcome, Waiting, Short, Split, Adopted}
 use Rattle.sync_rules.specs.Rules.{rates_of, noted, reading_of, publication, changes, steps_to, named_false, outcome_actions, live_actions, regressed_actions, closes, actions_of}
 use Rattle.sync_rules.proofs.Choices.{both}
 
@@ -52,6 +53,7 @@ publication_all P (Some rec) h = only P (action.Publish rec) (h rec)
 
 outcome_all : (P : Action → Type 0) (h : History) (e : Event) (required : ℕ) (o : Outcome) → Holds P h e → is_live h e ≡ true → e ≡ event.Adopt (event_osc e) required
     → outcome (rates_of h) (answers_of h) required (event_osc e) ≡ o → All P (outcome_actions e (rates_of h) (current_record h) (answers_of h) o)
+outcome_all P h e required (Waiting u d) holds live is comes = All-nil P
 outcome_all P h e required (Short a r) holds live is comes = only P (noted e (note.Short a r)) (holds.short a r)
 outcome_all P h e required (Split n) holds live is comes = only P (noted e (note.Split n)) (holds.split n)
 outcome_all P h e required (Adopted n i) holds live is comes =

@@ -1,5 +1,6 @@
 pub mod Positions
 pub mod Choices
+pub mod Concluding
 pub mod Changes
 pub mod Moments
 pub mod Standing

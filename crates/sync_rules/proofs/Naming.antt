@@ -19,7 +19,8 @@ use Rattle.dts_capture.specs.declared.action.NoteKind.TheVariants as note
 use Rattle.dts_capture.specs.declared.action.FalseSource.TheVariants as source
 use Rattle.sync_rules.specs.History.{History, Begun, Then, event_osc, event_part, current_record, given_at, IsPositionOf}
 use Rattle.sync_rules.specs.Live.{is_live}
-use Rattle.sync_rules.specs.Rounds.{Answer, Adopted, answers_of, carried_to, are_apart, outcome}
+use Rattle.sync_rules.specs.Rounds.{Answer, answers_of, carried_to, are_apart, outcome}
+use Rattle.clerk.specs.Outcome.{Adopted}
 use Rattle.sync_rules.specs.Rules.{rates_of, actions_of, live_actions, regressed_actions, outcome_actions, named_false, changes, steps_to, noted, IsRuled}
 use Rattle.sync_rules.specs.Ranges.{IsInRange}
 use Rattle.sync_rules.specs.World.{World, time_at, is_right, IsHonest}

@@ -11,6 +11,7 @@ use Rattle.dts_capture.specs.declared.action.NoteKind.TheVariants as note
 use Rattle.dts_capture.specs.declared.action.FalseSource.TheVariants as source
 use Rattle.sync_rules.specs.History.{History, Begun, current_record}
 use Rattle.sync_rules.specs.Live.{live_osc}
+use Rattle.clerk.specs.Outcome.{concluded}
 use Rattle.sync_rules.specs.Rounds.{queries_of, answers_of, outcome}
 use Rattle.sync_rules.specs.Rules.{actions_of, noted, extended}
 use Rattle.sync_rules.proofs.Rows.{usual}
@@ -37,7 +38,7 @@ first_tick_renews : actions_of slewing (tick 0) ≡ action.Publish (record {
   a = record { from = 0; value = pos 2000000; x = pos 0 };
   b = record { from = 40000000; x = negsuc 399999 };
 }) ∷ []
-unfolding actions_of current_record live_osc line interval_of inaccuracy_of queries_of answers_of outcome slewing
+unfolding actions_of current_record live_osc line interval_of inaccuracy_of queries_of answers_of outcome concluded slewing
 first_tick_renews = refl
 
 second_tick_renews : actions_of (extended slewing (tick 0 ∷ [])) (tick 40000000) ≡ action.Publish (record {
@@ -48,7 +49,7 @@ second_tick_renews : actions_of (extended slewing (tick 0 ∷ [])) (tick 4000000
   a = record { from = 40000000; value = pos 42000000; x = negsuc 399999 };
   b = record { from = 80000000; x = negsuc 399999 };
 }) ∷ []
-unfolding actions_of current_record live_osc line interval_of inaccuracy_of queries_of answers_of outcome slewing
+unfolding actions_of current_record live_osc line interval_of inaccuracy_of queries_of answers_of outcome concluded slewing
 second_tick_renews = refl
 
 third_tick_leaves_less_to_slew : actions_of (extended slewing (tick 0 ∷ tick 40000000 ∷ [])) (tick 80000000) ≡ action.Publish (record {
@@ -59,12 +60,12 @@ third_tick_leaves_less_to_slew : actions_of (extended slewing (tick 0 ∷ tick 4
   a = record { from = 80000000; value = pos 81600000; x = negsuc 399999 };
   b = record { from = 120000000; x = negsuc 199999 };
 }) ∷ []
-unfolding actions_of current_record live_osc line interval_of inaccuracy_of queries_of answers_of outcome slewing
+unfolding actions_of current_record live_osc line interval_of inaccuracy_of queries_of answers_of outcome concluded slewing
 third_tick_leaves_less_to_slew = refl
 
 reading_while_slewing : actions_of (extended slewing (tick 0 ∷ tick 40000000 ∷ tick 80000000 ∷ [])) (event.Read 100000000)
     ≡ noted (event.Read 100000000) (note.Reading (pos 101400000) (Some 411001) 0 3) ∷ []
-unfolding actions_of current_record live_osc line interval_of inaccuracy_of queries_of answers_of outcome slewing
+unfolding actions_of current_record live_osc line interval_of inaccuracy_of queries_of answers_of outcome concluded slewing
 reading_while_slewing = refl
 
 last_tick_ends_the_slew : actions_of (extended slewing (tick 0 ∷ tick 40000000 ∷ tick 80000000 ∷ event.Read 100000000 ∷ [])) (tick 120000000) ≡ action.Publish (record {
@@ -75,11 +76,11 @@ last_tick_ends_the_slew : actions_of (extended slewing (tick 0 ∷ tick 40000000
   a = record { from = 120000000; value = pos 121200000; x = negsuc 199999 };
   b = record { from = 160000000; x = pos 0 };
 }) ∷ []
-unfolding actions_of current_record live_osc line interval_of inaccuracy_of queries_of answers_of outcome slewing
+unfolding actions_of current_record live_osc line interval_of inaccuracy_of queries_of answers_of outcome concluded slewing
 last_tick_ends_the_slew = refl
 
 tick_before_the_second_part_gives_nothing : actions_of (extended slewing (tick 0 ∷ [])) (tick 39999999) ≡ []
-unfolding actions_of current_record live_osc line interval_of inaccuracy_of queries_of answers_of outcome slewing
+unfolding actions_of current_record live_osc line interval_of inaccuracy_of queries_of answers_of outcome concluded slewing
 tick_before_the_second_part_gives_nothing = refl
 
 -- ---- a step to a far interval
@@ -100,12 +101,12 @@ adoption_steps_to_a_far_interval : actions_of (extended far asked_far) (event.Ad
       a = record { from = 10000000; value = pos 20000001000; x = pos 0 };
       b = record { from = 10000000; x = pos 0 };
     }) ∷ []
-unfolding actions_of current_record live_osc line interval_of inaccuracy_of queries_of answers_of outcome far asked_far
+unfolding actions_of current_record live_osc line interval_of inaccuracy_of queries_of answers_of outcome concluded far asked_far
 adoption_steps_to_a_far_interval = refl
 
 reading_after_the_step : actions_of (extended far (asked_far ++ event.Adopt 10000000 1 ∷ [])) (event.Read 10000000)
     ≡ noted (event.Read 10000000) (note.Reading (pos 20000001000) (Some 1002) 1 1) ∷ []
-unfolding actions_of current_record live_osc line interval_of inaccuracy_of queries_of answers_of outcome far asked_far
+unfolding actions_of current_record live_osc line interval_of inaccuracy_of queries_of answers_of outcome concluded far asked_far
 reading_after_the_step = refl
 
 -- ---- rounds without an adoption
@@ -117,17 +118,17 @@ asked = event.Query 0 1 ∷ event.Query 0 2 ∷ event.Query 0 3 ∷ event.Query 
 
 halves_are_split : actions_of (extended unknown (asked ++ event.Source 0 1 narrow ∷ event.Source 0 2 narrow ∷ event.Source 0 3 other ∷ event.Source 0 4 other ∷ [])) (event.Adopt 0 1)
     ≡ noted (event.Adopt 0 1) (note.Split 4) ∷ []
-unfolding actions_of current_record live_osc line interval_of inaccuracy_of queries_of answers_of outcome unknown asked narrow other
+unfolding actions_of current_record live_osc line interval_of inaccuracy_of queries_of answers_of outcome concluded unknown asked narrow other
 halves_are_split = refl
 
 too_few_are_short : actions_of (extended unknown (asked ++ event.Source 0 1 narrow ∷ event.Source 0 2 narrow ∷ [])) (event.Adopt 0 3)
     ≡ noted (event.Adopt 0 3) (note.Short 2 3) ∷ []
-unfolding actions_of current_record live_osc line interval_of inaccuracy_of queries_of answers_of outcome unknown asked narrow other
+unfolding actions_of current_record live_osc line interval_of inaccuracy_of queries_of answers_of outcome concluded unknown asked narrow other
 too_few_are_short = refl
 
 adoption_forgets_all_tags : actions_of (extended unknown (asked ++ event.Source 0 1 narrow ∷ event.Source 0 2 narrow ∷ event.Adopt 0 3 ∷ [])) (event.Adopt 0 1)
     ≡ noted (event.Adopt 0 1) (note.Short 0 1) ∷ []
-unfolding actions_of current_record live_osc line interval_of inaccuracy_of queries_of answers_of outcome unknown asked narrow other
+unfolding actions_of current_record live_osc line interval_of inaccuracy_of queries_of answers_of outcome concluded unknown asked narrow other
 adoption_forgets_all_tags = refl
 
 false_source_is_named : actions_of (extended unknown (asked ++ event.Source 0 1 narrow ∷ event.Source 0 3 other ∷ event.Source 0 2 narrow ∷ [])) (event.Adopt 0 2) ≡
@@ -142,34 +143,34 @@ false_source_is_named : actions_of (extended unknown (asked ++ event.Source 0 1 
       a = record { from = 0; value = pos 5; x = pos 0 };
       b = record { from = 0; x = pos 0 };
     }) ∷ []
-unfolding actions_of current_record live_osc line interval_of inaccuracy_of queries_of answers_of outcome unknown asked narrow other
+unfolding actions_of current_record live_osc line interval_of inaccuracy_of queries_of answers_of outcome concluded unknown asked narrow other
 false_source_is_named = refl
 
 -- ---- tags
 tag_is_repeated : actions_of (extended unknown asked) (event.Query 0 3) ≡ noted (event.Query 0 3) (note.RepeatedTag 3) ∷ []
-unfolding actions_of current_record live_osc line interval_of inaccuracy_of queries_of answers_of outcome unknown asked narrow other
+unfolding actions_of current_record live_osc line interval_of inaccuracy_of queries_of answers_of outcome concluded unknown asked narrow other
 tag_is_repeated = refl
 
 answered_tag_is_repeated : actions_of (extended unknown (asked ++ event.Source 0 3 other ∷ [])) (event.Query 0 3) ≡ noted (event.Query 0 3) (note.RepeatedTag 3) ∷ []
-unfolding actions_of current_record live_osc line interval_of inaccuracy_of queries_of answers_of outcome unknown asked narrow other
+unfolding actions_of current_record live_osc line interval_of inaccuracy_of queries_of answers_of outcome concluded unknown asked narrow other
 answered_tag_is_repeated = refl
 
 unasked_tag_is_unknown : actions_of (extended unknown asked) (event.Source 0 5 other) ≡ noted (event.Source 0 5 other) (note.UnknownTag 5) ∷ []
-unfolding actions_of current_record live_osc line interval_of inaccuracy_of queries_of answers_of outcome unknown asked narrow other
+unfolding actions_of current_record live_osc line interval_of inaccuracy_of queries_of answers_of outcome concluded unknown asked narrow other
 unasked_tag_is_unknown = refl
 
 second_answer_is_unknown : actions_of (extended unknown (asked ++ event.Source 0 3 other ∷ [])) (event.Source 0 3 narrow) ≡ noted (event.Source 0 3 narrow) (note.UnknownTag 3) ∷ []
-unfolding actions_of current_record live_osc line interval_of inaccuracy_of queries_of answers_of outcome unknown asked narrow other
+unfolding actions_of current_record live_osc line interval_of inaccuracy_of queries_of answers_of outcome concluded unknown asked narrow other
 second_answer_is_unknown = refl
 
 regressed_adoption_forgets_nothing : actions_of (extended unknown (event.Query 5 1 ∷ event.Adopt 4 1 ∷ [])) (event.Query 5 1) ≡ noted (event.Query 5 1) (note.RepeatedTag 1) ∷ []
-unfolding actions_of current_record live_osc line interval_of inaccuracy_of queries_of answers_of outcome unknown asked narrow other
+unfolding actions_of current_record live_osc line interval_of inaccuracy_of queries_of answers_of outcome concluded unknown asked narrow other
 regressed_adoption_forgets_nothing = refl
 
 regressed_query_asks_nothing : actions_of (extended unknown (event.Query 5 1 ∷ event.Query 4 2 ∷ [])) (event.Source 5 2 other) ≡ noted (event.Source 5 2 other) (note.UnknownTag 2) ∷ []
-unfolding actions_of current_record live_osc line interval_of inaccuracy_of queries_of answers_of outcome unknown asked narrow other
+unfolding actions_of current_record live_osc line interval_of inaccuracy_of queries_of answers_of outcome concluded unknown asked narrow other
 regressed_query_asks_nothing = refl
 
 regressed_stream_is_closed : actions_of (extended unknown (tick 5 ∷ [])) (event.Stream 4 3 (7 ∷ [])) ≡ noted (event.Stream 4 3 (7 ∷ [])) (note.Regressed 5) ∷ action.Close 4 3 ∷ []
-unfolding actions_of current_record live_osc line interval_of inaccuracy_of queries_of answers_of outcome unknown asked narrow other
+unfolding actions_of current_record live_osc line interval_of inaccuracy_of queries_of answers_of outcome concluded unknown asked narrow other
 regressed_stream_is_closed = refl

@@ -1,5 +1,5 @@
 -- The current record of a history is sound, and records follow on one another.
-use Rattle.std.proofs.Common.{◌≡◌, ◌⊎◌, inl, inr, ℕ, ◌+◌, ◌-◌, ◌*◌, ◌≤◌, ◌^◌, Bool, true, false, cond, List, length, Option, Some, None, MatchOption, refl, sym, ap, subst, arith}
+use Rattle.std.proofs.Common.{◌∙◌, sym, ◌≡◌, ◌⊎◌, inl, inr, ℕ, ◌+◌, ◌-◌, ◌*◌, ◌≤◌, ◌^◌, Bool, true, false, cond, List, length, Option, Some, None, MatchOption, refl, sym, ap, subst, arith}
 use Rattle.std.specs.Prelude.{ℤ, pos, ◌≤ℤ◌, All, map, nat_lt, IfSome, is_none, ◌||◌}
 use Rattle.std.proofs.lemmas.Int.{ints}
 use Rattle.std.proofs.Math.Nat.{mul-le-mul_left}
@@ -27,10 +27,12 @@ use Rattle.dts_capture.specs.declared.event.Event.TheVariants as event
 use Rattle.dts_capture.specs.declared.action.Action.{Action}
 use Rattle.sync_rules.specs.History.{History, Settings, Begun, Then, Sync, Start, event_part, event_osc, first_record, current_record, IsPositionOf}
 use Rattle.sync_rules.specs.Live.{live_osc, is_live}
-use Rattle.sync_rules.specs.Rounds.{Answer, Adopted, Short, agreed, answers_of, carried_to, outcome}
+use Rattle.sync_rules.specs.Rounds.{Answer, answers_of, carried_to, outcome}
+use Rattle.clerk.specs.Outcome.{Adopted, Short, agreed}
 use Rattle.sync_rules.specs.Rules.{rates_of, IsRuled}
 use Rattle.sync_rules.specs.Ranges.{IsTime, IsEventInRange, IsInRange as HistoryInRange}
 use Rattle.sync_rules.proofs.Choices.{both}
+use Rattle.sync_rules.proofs.Concluding.{by_count}
 use Rattle.sync_rules.proofs.Changes.{Change, current_then}
 use Rattle.sync_rules.proofs.Changes.Change.{same, renewal as renews, adoption}
 use Rattle.sync_rules.proofs.Moments.{IsAnswerOf, AreAnswersOf, answers_are, sync_live, sync_grows, sync_above}
@@ -44,8 +46,9 @@ outcome_cases rates answers required osc n i false (Some j) is = (cc, cc, refl)
 
 pub outcome_adopted : (rates : Rates) (answers : List Answer) (required osc n : ℕ) (i : ℤ × ℤ) → outcome rates answers required osc ≡ Adopted n i
     → (adopted (map (carried_to rates osc) answers) ≡ Some i) × (n ≡ length answers) × (nat_lt (length answers) required ≡ false)
-unfolding outcome
-outcome_adopted rates answers required osc n i is = outcome_cases rates answers required osc n i (nat_lt (length answers) required) (adopted (map (carried_to rates osc) answers)) is
+outcome_adopted rates answers required osc n i is =
+    outcome_cases rates answers required osc n i (nat_lt (length answers) required) (adopted (map (carried_to rates osc) answers))
+    (sym (by_count rates answers required osc) ∙ is)
 
 pub is_adopted : (s : List (ℤ × ℤ)) (i : ℤ × ℤ) → adopted s ≡ Some i → IsAdopted s i
 is_adopted s i is = subst (λ o. MatchOption o (NoneIsAgreed s) (IsAdopted s)) is (adopted_is s)

@@ -3,7 +3,6 @@ use Rattle.std.proofs.Common.{◌≡◌, ℕ, ℤ, suc, zero, pos, List, [], ◌
 use Rattle.std.proofs.lemmas.Int.{ints}
 use Rattle.slew_clock.specs.Line.{line}
 use Rattle.slew_clock.specs.Reading.{interval_of, inaccuracy_of}
-use Rattle.dts_base.specs.declared.interval.Interval.{Interval}
 use Rattle.dts_capture.specs.declared.action.Action.{Action}
 use Rattle.dts_capture.specs.declared.action.Action.TheVariants as action
 use Rattle.dts_capture.specs.declared.action.FalseSource.TheVariants as source
@@ -12,6 +11,7 @@ use Rattle.dts_capture.specs.declared.event.Event.{Event}
 use Rattle.dts_capture.specs.declared.event.Event.TheVariants as event
 use Rattle.sync_rules.specs.History.{History, Begun, current_record}
 use Rattle.sync_rules.specs.Live.{live_osc}
+use Rattle.clerk.specs.Outcome.{concluded}
 use Rattle.sync_rules.specs.Rounds.{queries_of, answers_of, outcome}
 use Rattle.sync_rules.specs.Rules.{actions_of, noted, extended}
 use Rattle.sync_rules.proofs.Rows.{usual}
@@ -40,24 +40,24 @@ stepped number step p q value = action.Publish (record {
 
 adoption_above_within_the_tolerance_anchors : actions_of (extended near (pointed (pos 16000000000))) adopt
     ≡ noted adopt (note.Adopted 1 (pos 16000000000) (pos 16000000001)) ∷ stepped 1 0 (pos 16000000000) (pos 16000000001) (pos 10000000000) ∷ []
-unfolding actions_of current_record live_osc line interval_of inaccuracy_of queries_of answers_of outcome near pointed adopt stepped
+unfolding actions_of current_record live_osc line interval_of inaccuracy_of queries_of answers_of outcome concluded near pointed adopt stepped
 adoption_above_within_the_tolerance_anchors = refl
 
 adoption_above_past_the_tolerance_steps : actions_of (extended near (pointed (pos 16000000001))) adopt
     ≡ noted adopt (note.Adopted 1 (pos 16000000001) (pos 16000000002)) ∷ noted adopt (note.Step 1 (pos 10000000000) (pos 16000000001))
     ∷ stepped 1 1 (pos 16000000001) (pos 16000000002) (pos 16000000001) ∷ []
-unfolding actions_of current_record live_osc line interval_of inaccuracy_of queries_of answers_of outcome near pointed adopt stepped
+unfolding actions_of current_record live_osc line interval_of inaccuracy_of queries_of answers_of outcome concluded near pointed adopt stepped
 adoption_above_past_the_tolerance_steps = refl
 
 adoption_below_within_the_tolerance_anchors : actions_of (extended near (pointed (pos 4000000000))) adopt
     ≡ noted adopt (note.Adopted 1 (pos 4000000000) (pos 4000000001)) ∷ stepped 1 0 (pos 4000000000) (pos 4000000001) (pos 10000000000) ∷ []
-unfolding actions_of current_record live_osc line interval_of inaccuracy_of queries_of answers_of outcome near pointed adopt stepped
+unfolding actions_of current_record live_osc line interval_of inaccuracy_of queries_of answers_of outcome concluded near pointed adopt stepped
 adoption_below_within_the_tolerance_anchors = refl
 
 adoption_below_past_the_tolerance_steps : actions_of (extended near (pointed (pos 3999999999))) adopt
     ≡ noted adopt (note.Adopted 1 (pos 3999999999) (pos 4000000000)) ∷ noted adopt (note.Step 1 (pos 10000000000) (pos 3999999999))
     ∷ stepped 1 1 (pos 3999999999) (pos 4000000000) (pos 3999999999) ∷ []
-unfolding actions_of current_record live_osc line interval_of inaccuracy_of queries_of answers_of outcome near pointed adopt stepped
+unfolding actions_of current_record live_osc line interval_of inaccuracy_of queries_of answers_of outcome concluded near pointed adopt stepped
 adoption_below_past_the_tolerance_steps = refl
 
 -- a renewal leads to the new anchor, as far as the greatest slew
@@ -69,18 +69,18 @@ tick_slews_to_the_new_anchor : actions_of (extended near (pointed (pos 160000000
   a = record { from = 0; value = pos 10000000000; x = pos 0 };
   b = record { from = 40000000; x = pos 400000 };
 }) ∷ []
-unfolding actions_of current_record live_osc line interval_of inaccuracy_of queries_of answers_of outcome near pointed adopt
+unfolding actions_of current_record live_osc line interval_of inaccuracy_of queries_of answers_of outcome concluded near pointed adopt
 tick_slews_to_the_new_anchor = refl
 
 second_step_has_the_next_number : actions_of (extended near (pointed (pos 16000000001) ++ adopt ∷ pointed (pos 0))) adopt
     ≡ noted adopt (note.Adopted 1 (pos 0) (pos 1)) ∷ noted adopt (note.Step 2 (pos 16000000001) (pos 0)) ∷ stepped 2 2 (pos 0) (pos 1) (pos 0) ∷ []
-unfolding actions_of current_record live_osc line interval_of inaccuracy_of queries_of answers_of outcome near pointed adopt stepped
+unfolding actions_of current_record live_osc line interval_of inaccuracy_of queries_of answers_of outcome concluded near pointed adopt stepped
 second_step_has_the_next_number = refl
 
 -- no read is served from before the record that is current
 read_below_a_new_record_is_regressed : actions_of (extended near (event.Query 0 1 ∷ event.Source 9 1 (record { lo = pos 0; hi = pos 0; ordered = omega (arith, ints) }) ∷ event.Adopt 9 1 ∷ [])) (event.Read 8)
     ≡ noted (event.Read 8) (note.Regressed 9) ∷ []
-unfolding actions_of current_record live_osc line interval_of inaccuracy_of queries_of answers_of outcome near
+unfolding actions_of current_record live_osc line interval_of inaccuracy_of queries_of answers_of outcome concluded near
 read_below_a_new_record_is_regressed = refl
 
 -- ---- rounds
@@ -98,25 +98,25 @@ apart_from tag lo = event.Source 0 tag (record { lo = lo; hi = lo; ordered = ome
 
 as_many_as_required_are_enough : actions_of (extended unknown (asked ++ answered 1 ∷ answered 2 ∷ [])) (event.Adopt 0 2)
     ≡ noted adopt (note.Adopted 2 (pos 0) (pos 11)) ∷ noted adopt (note.Step 1 (pos 1000000) (pos 5)) ∷ stepped 1 1 (pos 0) (pos 11) (pos 5) ∷ []
-unfolding actions_of current_record live_osc line interval_of inaccuracy_of queries_of answers_of outcome unknown asked answered adopt stepped
+unfolding actions_of current_record live_osc line interval_of inaccuracy_of queries_of answers_of outcome concluded unknown asked answered adopt stepped
 as_many_as_required_are_enough = refl
 
 source_that_touches_is_not_false : actions_of (extended unknown (asked ++ answered 1 ∷ answered 2 ∷ apart_from 3 (pos 11) ∷ [])) adopt
     ≡ noted adopt (note.Adopted 3 (pos 0) (pos 11)) ∷ noted adopt (note.Step 1 (pos 1000000) (pos 5)) ∷ stepped 1 1 (pos 0) (pos 11) (pos 5) ∷ []
-unfolding actions_of current_record live_osc line interval_of inaccuracy_of queries_of answers_of outcome unknown asked answered apart_from adopt stepped
+unfolding actions_of current_record live_osc line interval_of inaccuracy_of queries_of answers_of outcome concluded unknown asked answered apart_from adopt stepped
 source_that_touches_is_not_false = refl
 
 source_past_the_end_is_false : actions_of (extended unknown (asked ++ answered 1 ∷ answered 2 ∷ apart_from 3 (pos 12) ∷ [])) adopt
     ≡ noted adopt (note.Adopted 3 (pos 0) (pos 11)) ∷ noted adopt (note.False (source.Tag 3)) ∷ noted adopt (note.Step 1 (pos 1000000) (pos 5))
     ∷ stepped 1 1 (pos 0) (pos 11) (pos 5) ∷ []
-unfolding actions_of current_record live_osc line interval_of inaccuracy_of queries_of answers_of outcome unknown asked answered apart_from adopt stepped
+unfolding actions_of current_record live_osc line interval_of inaccuracy_of queries_of answers_of outcome concluded unknown asked answered apart_from adopt stepped
 source_past_the_end_is_false = refl
 
 false_sources_are_named_in_the_order_of_their_answers :
     actions_of (extended unknown (asked ++ event.Query 0 4 ∷ event.Query 0 5 ∷ apart_from 4 (pos 20) ∷ answered 1 ∷ answered 2 ∷ apart_from 3 (pos 30) ∷ answered 5 ∷ [])) adopt
     ≡ noted adopt (note.Adopted 5 (pos 0) (pos 11)) ∷ noted adopt (note.False (source.Tag 4)) ∷ noted adopt (note.False (source.Tag 3))
     ∷ noted adopt (note.Step 1 (pos 1000000) (pos 5)) ∷ stepped 1 1 (pos 0) (pos 11) (pos 5) ∷ []
-unfolding actions_of current_record live_osc line interval_of inaccuracy_of queries_of answers_of outcome unknown asked answered apart_from adopt stepped
+unfolding actions_of current_record live_osc line interval_of inaccuracy_of queries_of answers_of outcome concluded unknown asked answered apart_from adopt stepped
 false_sources_are_named_in_the_order_of_their_answers = refl
 
 -- the low end goes on from when the answer came, and the high end from when it was asked for
@@ -130,16 +130,16 @@ answers_are_carried_on : actions_of (extended unknown (event.Query 0 1 ∷ event
       a = record { from = 2000000; value = pos 1500055; x = pos 0 };
       b = record { from = 2000000; x = pos 0 };
     }) ∷ []
-unfolding actions_of current_record live_osc line interval_of inaccuracy_of queries_of answers_of outcome unknown
+unfolding actions_of current_record live_osc line interval_of inaccuracy_of queries_of answers_of outcome concluded unknown
 answers_are_carried_on = refl
 
 regressed_source_answers_nothing : actions_of (extended unknown (event.Query 5 1 ∷ event.Source 4 1 (record { lo = pos 0; hi = pos 10; ordered = omega (arith, ints) }) ∷ [])) (event.Adopt 5 1)
     ≡ noted (event.Adopt 5 1) (note.Short 0 1) ∷ []
-unfolding actions_of current_record live_osc line interval_of inaccuracy_of queries_of answers_of outcome unknown
+unfolding actions_of current_record live_osc line interval_of inaccuracy_of queries_of answers_of outcome concluded unknown
 regressed_source_answers_nothing = refl
 
 regressed_tick_renews_nothing : actions_of (extended unknown (event.Tick 5 1 ∷ [])) (event.Tick 4 1) ≡ noted (event.Tick 4 1) (note.Regressed 5) ∷ []
-unfolding actions_of current_record live_osc line interval_of inaccuracy_of queries_of answers_of outcome unknown
+unfolding actions_of current_record live_osc line interval_of inaccuracy_of queries_of answers_of outcome concluded unknown
 regressed_tick_renews_nothing = refl
 
 -- ---- so many tags are asked, the last of them first
@@ -148,17 +148,17 @@ asked_down zero = []
 asked_down (suc n) = event.Query 0 (suc n) ∷ asked_down n
 
 tag_64_is_asked : actions_of (extended unknown (asked_down 63)) (event.Query 0 64) ≡ []
-unfolding actions_of current_record live_osc line interval_of inaccuracy_of queries_of answers_of outcome unknown asked_down
+unfolding actions_of current_record live_osc line interval_of inaccuracy_of queries_of answers_of outcome concluded unknown asked_down
 tag_64_is_asked = refl
 
 tag_65_is_one_too_many : actions_of (extended unknown (asked_down 64)) (event.Query 0 65) ≡ noted (event.Query 0 65) note.TagsFull ∷ []
-unfolding actions_of current_record live_osc line interval_of inaccuracy_of queries_of answers_of outcome unknown asked_down
+unfolding actions_of current_record live_osc line interval_of inaccuracy_of queries_of answers_of outcome concluded unknown asked_down
 tag_65_is_one_too_many = refl
 
 repeated_tag_of_a_full_round_is_repeated : actions_of (extended unknown (asked_down 64)) (event.Query 0 64) ≡ noted (event.Query 0 64) (note.RepeatedTag 64) ∷ []
-unfolding actions_of current_record live_osc line interval_of inaccuracy_of queries_of answers_of outcome unknown asked_down
+unfolding actions_of current_record live_osc line interval_of inaccuracy_of queries_of answers_of outcome concluded unknown asked_down
 repeated_tag_of_a_full_round_is_repeated = refl
 
 adoption_makes_room : actions_of (extended unknown (asked_down 64 ++ adopt ∷ [])) (event.Query 0 65) ≡ []
-unfolding actions_of current_record live_osc line interval_of inaccuracy_of queries_of answers_of outcome unknown asked_down adopt
+unfolding actions_of current_record live_osc line interval_of inaccuracy_of queries_of answers_of outcome concluded unknown asked_down adopt
 adoption_makes_room = refl

@@ -1,10 +1,10 @@
 -- Direct rounds: which sources were asked, what they answered, and what comes of it.
-use Rattle.std.specs.Prelude.{ℕ, ◌+◌, nat_lt, nat_le, ◌==◌, ◌||◌, if◌then◌else◌, Bool, ℤ, int_lt, List, [], ◌∷◌, ◌++◌, length, map, find, Option, Some, None, option_map}
+use Rattle.std.specs.Prelude.{ℕ, ◌+◌, nat_le, ◌==◌, ◌||◌, if◌then◌else◌, Bool, ℤ, int_lt, List, [], ◌∷◌, ◌++◌, length, map, find, Option, Some, None, option_map}
 use Rattle.std.specs.List.{list_any}
 use Rattle.dts_base.specs.declared.interval.Interval.{Interval}
 use Rattle.slew_clock.specs.declared.rates.Rates.{Rates}
 use Rattle.slew_clock.specs.Elapsed.{carried}
-use Rattle.intersection.specs.Adopted.{adopted}
+use Rattle.clerk.specs.Outcome.{Outcome, concluded}
 use Rattle.dts_capture.specs.declared.event.Event.{Event}
 use Rattle.dts_capture.specs.declared.event.Event.TheVariants as event
 use Rattle.dts_capture.specs.Grammar.{most_tags}
@@ -84,21 +84,9 @@ answers_of (Then before event actions) =
 abbrev pub carried_to : Rates → ℕ → Answer → ℤ × ℤ
 carried_to rates osc answer = carried rates answer.lo answer.hi answer.asked.osc answer.got.osc osc
 
--- What comes of a round: too few answered, of so many that are required; of so many intervals too few agree; or, of so many, this one is adopted.
-pub data Outcome : Type 0 where
-  Short : ℕ → ℕ → Outcome
-  Split : ℕ → Outcome
-  Adopted : ℕ → ℤ × ℤ → Outcome
-
-abbrev pub agreed : ℕ → Option (ℤ × ℤ) → Outcome
-agreed n None = Split n
-agreed n (Some i) = Adopted n i
-
--- what comes of these answers at an oscillator reading, where so many are required
+-- what comes of these answers at an oscillator reading, where so many are required: a direct round waits for nobody, and has no interval of its own
 unfoldable pub outcome : Rates → List Answer → ℕ → ℕ → Outcome
-outcome rates answers required osc =
-    if nat_lt (length answers) required then Short (length answers) required
-    else agreed (length answers) (adopted (map (carried_to rates osc) answers))
+outcome rates answers required osc = concluded required (map (carried_to rates osc) answers) None
 
 -- two intervals with no point in common
 abbrev pub are_apart : ℤ × ℤ → ℤ × ℤ → Bool

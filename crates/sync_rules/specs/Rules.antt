@@ -14,7 +14,8 @@ use Rattle.dts_capture.specs.declared.action.NoteKind.TheVariants as note
 use Rattle.dts_capture.specs.declared.action.FalseSource.TheVariants as source
 use Rattle.sync_rules.specs.History.{History, Begun, Then, event_osc, settings_of, current_record}
 use Rattle.sync_rules.specs.Live.{floor_of, is_live}
-use Rattle.sync_rules.specs.Rounds.{Answer, Outcome, Short, Split, Adopted, is_asked, is_full, queries_of, answers_of, open_query, carried_to, outcome, are_apart}
+use Rattle.sync_rules.specs.Rounds.{Answer, is_asked, is_full, queries_of, answers_of, open_query, carried_to, outcome, are_apart}
+use Rattle.clerk.specs.Outcome.{Outcome, Short, Split, Adopted}
 
 -- the peer that the notes of an event speak of, where there is one
 abbrev pub event_peer : Event → Option ℕ
@@ -64,6 +65,7 @@ abbrev pub outcome_actions : Event → Rates → ClockRecord → List Answer →
 outcome_actions event rates rec answers (Short answered required) = noted event (note.Short answered required) ∷ []
 outcome_actions event rates rec answers (Split n) = noted event (note.Split n) ∷ []
 outcome_actions event rates rec answers (Adopted n i) = noted event (note.Adopted n i.0 i.1) ∷ named_false event rates answers i ++ changes event rates rec i
+outcome_actions event rates rec answers _ = []
 
 -- What a live event gives. A read gives its reading, and a tick the renewal of the clock where it is due. A query gives a note where
 -- its tag is asked or is one too many, and a source where its tag is not open. An adoption gives what comes of the answers.

@@ -5,7 +5,8 @@ use Rattle.dts_capture.specs.declared.event.Event.{Event}
 use Rattle.dts_capture.specs.declared.event.Event.TheVariants as event
 use Rattle.sync_rules.specs.History.{History, Begun, Then, Part, Sync, Lane, Start, settings_of, start_of, event_osc, number_of, part_of, osc_of, IsPositionOf, ComesBefore}
 use Rattle.sync_rules.specs.Live.{is_live}
-use Rattle.sync_rules.specs.Rounds.{Answer, Outcome, Adopted, answers_of, outcome}
+use Rattle.sync_rules.specs.Rounds.{Answer, answers_of, outcome}
+use Rattle.clerk.specs.Outcome.{Outcome, Adopted}
 use Rattle.sync_rules.specs.Rules.{rates_of}
 
 -- a true time for the number of each position, any whole numbers: units of 100 ns

@@ -1,8 +1,6 @@
 use Rattle.std.proofs.Common.{◌≡◌, inl, inr, refl, ◌∷◌, [], ◌++◌, sym, ap, ◌∙◌, subst}
-use Rattle.dts_capture.specs.declared.action.Action.TheVariants as action
 use Rattle.intersection.specs.Adoption.{ends_of}
 use Rattle.sync_rules.specs.History.{published}
-use Rattle.capture_replay.specs.declared.node.Node.{Node}
 use Rattle.capture_replay.specs.Rounds.{false_notes}
 use Rattle.capture_replay.proofs.Adopting.{adoption_publishes, adoption_gives}
 use Rattle.capture_replay.proofs.node.Node.adopt.Goals.{then-next-self+in_ok-push, else-next-self}

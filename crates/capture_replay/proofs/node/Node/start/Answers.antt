@@ -1,10 +1,10 @@
-use Rattle.std.proofs.Common.{map, refl, sym, ap, ◌∙◌, w64}
+use Rattle.std.proofs.Common.{map, refl, ap, ◌∙◌, w64}
 use Rattle.std.proofs.lemmas.Int.{to_z-of_z}
 use Rattle.slew_clock.specs.Started.{started}
 use Rattle.sync_rules.specs.History.{current_record}
 use Rattle.sync_rules.specs.Live.{live_osc}
 use Rattle.sync_rules.specs.Rounds.{queries_of, answers_of}
-use Rattle.capture_replay.specs.Rounds.{asked_tag, answer_kept}
+use Rattle.capture_replay.specs.Rounds.{answer_kept}
 use Rattle.capture_replay.proofs.node.Node.start.Goals as goal
 
 pub returns-clause-stands : goal.returns-clause-stands

@@ -1,7 +1,7 @@
 use Rattle.std.proofs.Common.{◌≡◌, length, map, rules, sym, ap, ◌∙◌}
 use Rattle.std.specs.Prelude.{option_map}
 use Rattle.intersection.specs.Adoption.{ends_of}
-use Rattle.sync_rules.specs.Rounds.{agreed}
+use Rattle.clerk.specs.Outcome.{agreed}
 use Rattle.capture_replay.specs.Rounds.{outcome_kept}
 use Rattle.capture_replay.proofs.Adopting.{short_round, full_round}
 use Rattle.capture_replay.proofs.round.DirectRound.outcome.Goals.{in-Some, in-None}

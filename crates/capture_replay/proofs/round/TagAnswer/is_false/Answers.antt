@@ -1,4 +1,4 @@
-use Rattle.std.proofs.Common.{sym, ap, ◌∙◌, subst}
+use Rattle.std.proofs.Common.{ap, ◌∙◌}
 use Rattle.intersection.specs.Adoption.{ends_of}
 use Rattle.sync_rules.specs.Rounds.{are_apart}
 use Rattle.capture_replay.proofs.Adopting.{apart_is}

@@ -1,0 +1,5 @@
+mod Carrying
+mod Found
+mod Outcomes
+mod Rows
+mod Stands

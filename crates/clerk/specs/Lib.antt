@@ -1,0 +1,4 @@
+pub mod Outcome
+pub mod Queries
+pub mod Standing
+pub mod Told
