@@ -1,0 +1,6 @@
+pub mod Reading
+pub mod Rounding
+pub mod EraLaws
+pub mod TrueTime
+pub mod Octets
+mod Rows

@@ -1,0 +1,4 @@
+pub mod Rooms
+pub mod Past
+pub mod State
+pub mod Settling
