@@ -1,0 +1,5 @@
+mod Rows
+pub mod AddressIs
+pub mod Walks
+pub mod Accepted
+pub mod ReadIs

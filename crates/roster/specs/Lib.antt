@@ -1,0 +1,8 @@
+pub mod Values
+pub mod Keys
+pub mod Wrong
+pub mod RosterData
+pub mod Rosters
+pub mod Seen
+pub mod Giving
+pub mod Rates
