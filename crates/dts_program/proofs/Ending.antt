@@ -7,13 +7,22 @@ use Rattle.slew_clock.specs.declared.rates.Rates.{Rates}
 use Rattle.utc_order.specs.declared.cause.OrderStatus.{OrderStatus}
 use Rattle.utc_order.specs.declared.cause.OrderStatus.TheVariants as order
 use Rattle.utc_order.specs.Orders.{HasOrdered}
-use Rattle.dts_program.specs.Commands.{HasAnswered, HasPutInOrder, HasReplayedSafely}
+use Rattle.dts_base.specs.Causes.{Rose}
+use Rattle.wire_show.specs.declared.end.Shown.{Shown}
+use Rattle.wire_show.specs.declared.end.ShowEnd.{ShowEnd}
+use Rattle.wire_show.specs.declared.end.ShowEnd.TheVariants as show
+use Rattle.wire_show.specs.Ends.{HasShown, HasFaults}
+use Rattle.dts_program.specs.declared.status.SourceName.{SourceName}
+use Rattle.dts_program.specs.declared.status.SourceName.TheVariants as source
+use Rattle.dts_program.specs.declared.status.SinkName.{SinkName}
+use Rattle.dts_program.specs.declared.status.SinkName.TheVariants as sink
+use Rattle.dts_program.specs.Commands.{HasAnswered, HasPutInOrder, HasReplayedSafely, HasShownFields}
 use Rattle.line_filter.specs.declared.stop.Stop.{Stop}
 use Rattle.line_filter.specs.declared.stop.Stop.TheVariants as stop
 use Rattle.line_filter.specs.Filters.{Rules, HasFiltered}
 use Rattle.dts_program.specs.declared.status.Status.{Status}
 use Rattle.dts_program.specs.declared.status.Status.TheVariants as status
-use Rattle.dts_program.specs.Statuses.{order_status, status_of}
+use Rattle.dts_program.specs.Statuses.{IsShowStatus, order_status, show_status, status_of}
 
 -- what is done was read to its end
 pub read_to_end : {State Cause : Type 0} (rules : Rules State Cause) (from : State) (refused : ℕ → Cause → Status) → ((n : ℕ) (cause : Cause) → refused n cause ≡ status.Done → ⊥)
@@ -81,3 +90,53 @@ nothing_ordered octets left before there = record {
   is = refl;
   ordered = record { more = octets; left_is = there; text = []; orders = inl refl; wrote = nothing_wrote before };
 }
+
+-- fields that were shown were read to their end
+pub shown_to_end : (kind : Shown) (octets : List ℕ) (left before now : Option (List ℕ)) (end : ShowEnd) → HasShown kind octets left end before now → show_status end ≡ status.Done → left ≡ Some []
+shown_to_end kind octets left before now show.Done has e = has.left_is ∙ ap Some has.shows.1
+shown_to_end kind octets left before now (show.Refused refused) has e = absurd cc
+shown_to_end kind octets left before now show.ReadFault has e = absurd cc
+shown_to_end kind octets left before now show.WriteFault has e = absurd cc
+shown_to_end kind octets left before now show.NoMemory has e = absurd cc
+
+-- what follows of an end follows of its status
+pub show_or : (end one other : ShowEnd) → (end ≡ one) ⊎ (end ≡ other) → (show_status end ≡ show_status one) ⊎ (show_status end ≡ show_status other)
+show_or end one other (inl e) = inl (ap show_status e)
+show_or end one other (inr e) = inr (ap show_status e)
+
+pub nothing_shown : (kind : Shown) (octets : List ℕ) (left before : Option (List ℕ)) → left ≡ Some octets → HasShownFields kind octets left status.NoMemory before before
+nothing_shown kind octets left before there = record {
+  end = show.NoMemory;
+  is = refl;
+  shown = record { read = []; more = octets; left_is = there; all = refl; few = omega arith; text = []; shows = refl; wrote = nothing_wrote before };
+}
+
+-- the faults of an ended showing
+pub show_read : (end : ShowEnd) (before now : ℕ) → HasFaults show.ReadFault before now end → (which : SourceName) → show_status end ≡ status.ReadFault which
+    → (which ≡ source.Input) × Rose before now
+show_read show.ReadFault before now has which is = (cc, has.failed refl)
+show_read show.Done before now has which is = absurd cc
+show_read (show.Refused refused) before now has which is = absurd cc
+show_read show.WriteFault before now has which is = absurd cc
+show_read show.NoMemory before now has which is = absurd cc
+
+pub show_wrote : (end : ShowEnd) (before now : ℕ) → HasFaults show.WriteFault before now end → (which : SinkName) → show_status end ≡ status.WriteFault which
+    → (which ≡ sink.Output) × Rose before now
+show_wrote show.WriteFault before now has which is = (cc, has.failed refl)
+show_wrote show.Done before now has which is = absurd cc
+show_wrote (show.Refused refused) before now has which is = absurd cc
+show_wrote show.ReadFault before now has which is = absurd cc
+show_wrote show.NoMemory before now has which is = absurd cc
+
+pub show_read_kept : (end : ShowEnd) (before now : ℕ) → HasFaults show.ReadFault before now end → ((which : SourceName) → show_status end ≡ status.ReadFault which → ⊥) → now ≡ before
+show_read_kept end before now has none = has.kept (λ is. none source.Input (ap show_status is))
+
+pub show_write_kept : (end : ShowEnd) (before now : ℕ) → HasFaults show.WriteFault before now end → ((which : SinkName) → show_status end ≡ status.WriteFault which → ⊥) → now ≡ before
+show_write_kept end before now has none = has.kept (λ is. none sink.Output (ap show_status is))
+
+pub show_statuses : (end : ShowEnd) → IsShowStatus (show_status end)
+show_statuses show.Done = tt
+show_statuses (show.Refused refused) = tt
+show_statuses show.ReadFault = tt
+show_statuses show.WriteFault = tt
+show_statuses show.NoMemory = tt

@@ -9,6 +9,7 @@ abbrev pub is_built : CommandLine → Bool
 is_built (command.Replay roster) = not roster
 is_built command.Utc = true
 is_built command.Order = true
+is_built (command.Show kind) = true
 is_built (command.Drill seed events) = true
 is_built _ = false
 
@@ -23,4 +24,5 @@ abbrev pub ReadsInput : Meaning → Type 0
 ReadsInput (means (command.Replay roster)) = Unit {0}
 ReadsInput (means command.Utc) = Unit {0}
 ReadsInput (means command.Order) = Unit {0}
+ReadsInput (means (command.Show kind)) = Unit {0}
 ReadsInput _ = ⊥

@@ -9,8 +9,11 @@ use Rattle.event_drill.specs.declared.command.DrillStop.{DrillStop}
 use Rattle.event_drill.specs.Drilled.{HasDrilled}
 use Rattle.utc_order.specs.declared.cause.OrderStatus.{OrderStatus}
 use Rattle.utc_order.specs.Orders.{HasOrdered}
+use Rattle.wire_show.specs.declared.end.Shown.{Shown}
+use Rattle.wire_show.specs.declared.end.ShowEnd.{ShowEnd}
+use Rattle.wire_show.specs.Ends.{HasShown}
 use Rattle.dts_program.specs.declared.status.Status.{Status}
-use Rattle.dts_program.specs.Statuses.{capture_status, drill_status, order_status}
+use Rattle.dts_program.specs.Statuses.{capture_status, drill_status, order_status, show_status}
 
 -- The command's filter ended or stopped over these octets in a way that has this status, and of what the input tells to be
 -- left and the output to hold now, this is what it read and wrote.
@@ -38,3 +41,9 @@ pub record HasPutInOrder (octets : List ℕ) (left : Option (List ℕ)) (s : Sta
   pub end : OrderStatus
   pub is : s ≡ order_status end
   pub ordered : HasOrdered octets left end before now
+
+-- The showing of these octets ended in a way that has this status, and wrote the lines of their fields, or nothing where they are refused.
+pub record HasShownFields (kind : Shown) (octets : List ℕ) (left : Option (List ℕ)) (s : Status) (before now : Option (List ℕ)) : Type 0 where
+  pub end : ShowEnd
+  pub is : s ≡ show_status end
+  pub shown : HasShown kind octets left end before now

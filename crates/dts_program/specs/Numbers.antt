@@ -11,4 +11,5 @@ number_of (status.ReadFault which) = 4
 number_of (status.WriteFault which) = 5
 number_of status.NoMemory = 6
 number_of (status.UtcRefused line column cause) = 7
+number_of (status.PduRefused field offset cause) = 8
 number_of (status.OrderRefused line cause) = 14

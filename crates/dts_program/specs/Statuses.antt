@@ -8,6 +8,8 @@ use Rattle.event_drill.specs.declared.command.DrillStop.{DrillStop}
 use Rattle.event_drill.specs.declared.command.DrillStop.TheVariants as drill_stop
 use Rattle.utc_order.specs.declared.cause.OrderStatus.{OrderStatus}
 use Rattle.utc_order.specs.declared.cause.OrderStatus.TheVariants as order
+use Rattle.wire_show.specs.declared.end.ShowEnd.{ShowEnd}
+use Rattle.wire_show.specs.declared.end.ShowEnd.TheVariants as shown
 use Rattle.dts_program.specs.declared.status.Status.{Status}
 use Rattle.dts_program.specs.declared.status.Status.TheVariants as status
 use Rattle.dts_program.specs.declared.status.SourceName.TheVariants as source
@@ -43,11 +45,20 @@ order_status order.ReadFault = status.ReadFault source.Input
 order_status order.WriteFault = status.WriteFault sink.Output
 order_status order.NoMemory = status.NoMemory
 
+-- that of the showing of octets
+abbrev pub show_status : ShowEnd → Status
+show_status shown.Done = status.Done
+show_status (shown.Refused refused) = status.PduRefused refused.field refused.offset refused.cause
+show_status shown.ReadFault = status.ReadFault source.Input
+show_status shown.WriteFault = status.WriteFault sink.Output
+show_status shown.NoMemory = status.NoMemory
+
 -- the statuses of `replay`
 abbrev pub IsReplayStatus : Status → Type 0
 IsReplayStatus status.Usage = ⊥
 IsReplayStatus (status.UtcRefused line column why) = ⊥
 IsReplayStatus (status.OrderRefused line why) = ⊥
+IsReplayStatus (status.PduRefused field offset why) = ⊥
 IsReplayStatus _ = Unit {0}
 
 -- the statuses of `utc`
@@ -55,6 +66,7 @@ abbrev pub IsUtcStatus : Status → Type 0
 IsUtcStatus status.Usage = ⊥
 IsUtcStatus (status.CaptureRefused line column why) = ⊥
 IsUtcStatus (status.OrderRefused line why) = ⊥
+IsUtcStatus (status.PduRefused field offset why) = ⊥
 IsUtcStatus _ = Unit {0}
 
 -- the statuses of `order`
@@ -62,7 +74,16 @@ abbrev pub IsOrderStatus : Status → Type 0
 IsOrderStatus status.Usage = ⊥
 IsOrderStatus (status.CaptureRefused line column why) = ⊥
 IsOrderStatus (status.UtcRefused line column why) = ⊥
+IsOrderStatus (status.PduRefused field offset why) = ⊥
 IsOrderStatus _ = Unit {0}
+
+-- the statuses of `show`
+abbrev pub IsShowStatus : Status → Type 0
+IsShowStatus status.Usage = ⊥
+IsShowStatus (status.CaptureRefused line column why) = ⊥
+IsShowStatus (status.UtcRefused line column why) = ⊥
+IsShowStatus (status.OrderRefused line why) = ⊥
+IsShowStatus _ = Unit {0}
 
 -- the statuses of what reads nothing and writes to the output: `drill`, the help and the version
 abbrev pub IsOutputStatus : Status → Type 0

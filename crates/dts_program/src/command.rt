@@ -1,4 +1,4 @@
-ghost use Rattle.std.specs.Prelude.{◌≡◌, ◌≤◌, ◌⊎◌, ℕ, List, [], Some, Result};
+ghost use Rattle.std.specs.Prelude.{◌≡◌, ◌≤◌, ◌⊎◌, ℕ, List, [], Some, Ok, Err, Result};
 ghost use Rattle.dts_base.specs.Causes.{Rose};
 ghost use Rattle.line_reader.specs.Lines.{lines_of};
 ghost use Rattle.line_filter.specs.Filters.{IsValid, RefusesAt};
@@ -8,13 +8,17 @@ ghost use Rattle.capture_replay.specs.Capture.{capture, unstarted};
 ghost use Rattle.event_drill.specs.declared.limits.TheConstants.{MAX_EVENTS};
 ghost use Rattle.utc_order.specs.Taking.{RefusesAt as RefusesLine};
 ghost use Rattle.utc_order.specs.declared.cause.OrderCause.{OrderCause};
-ghost use Rattle.dts_program.specs.Commands.{HasAnswered, HasPutInOrder, HasReplayedSafely, HasSummarised};
-ghost use Rattle.dts_program.specs.Statuses.{IsOrderStatus, IsOutputStatus, IsReplayStatus, IsUtcStatus, capture_status, drill_status, order_status, utc_status};
+ghost use Rattle.dts_base.specs.declared.wire.Refused.{Refused};
+ghost use Rattle.wire_show.specs.Output.{output_of};
+ghost use Rattle.dts_program.specs.Kinds.{shown_as};
+ghost use Rattle.dts_program.specs.Commands.{HasAnswered, HasPutInOrder, HasReplayedSafely, HasShownFields, HasSummarised};
+ghost use Rattle.dts_program.specs.Statuses.{IsOrderStatus, IsOutputStatus, IsReplayStatus, IsShowStatus, IsUtcStatus, capture_status, drill_status, order_status, show_status, utc_status};
 ghost use Rattle.dts_program.specs.declared.status.SourceName.{SourceName};
 ghost use Rattle.dts_program.specs.declared.status.SinkName.{SinkName};
 
 use crate::status::{SinkName, SourceName, Status};
 use capture_replay::CaptureFault;
+use command_words::ShowKind;
 use dts_base::{Sink, Source};
 use event_drill::DrillStop;
 use line_filter::Stop;
@@ -22,6 +26,7 @@ use slew_clock::Rates;
 use std::alloc::Global;
 use utc_calculator::{UtcRefusal, calculate};
 use utc_order::OrderStatus;
+use wire_show::{ShowEnd, Shown};
 
 /// Replays a capture at these rates: reads it from the input, and writes the log of its history to the output, the text
 /// of each event as one piece, in bounded memory. It ends at the first line that is refused, or at the end of the input.
@@ -192,5 +197,66 @@ fn order_status(end: OrderStatus) -> Status
             which: SinkName::Output,
         },
         OrderStatus::NoMemory => Status::NoMemory,
+    }
+}
+
+/// Shows octets as this: reads one line of hex digits from the input, and writes each field of the octets to the output, as a
+/// line of its offset, its name and its octets. Nothing is written before all is read and none is refused.
+pub fn show<I: Source, O: Sink>(
+    alloc: Global,
+    kind: ShowKind,
+    input: &mut I,
+    output: &mut O,
+) -> Status
+    // What the output holds afterwards is what it held before, and then the lines of the fields, or the beginning of that where the output failed.
+    ensures shown { (octets : List ℕ) → I.left input.old ≡ Some octets →
+        HasShownFields (shown_as kind) octets (I.left input.new) result (O.written output.old) (O.written output.new) }
+    ensures read_to_end { result ≡ Status.Done → (octets : List ℕ) → I.left input.old ≡ Some octets → I.left input.new ≡ Some [] }
+
+    // What is refused is told, and what is not refused is shown, where nothing failed and memory was not missing.
+    ensures refused { (octets : List ℕ) (refused : Refused) → I.left input.old ≡ Some octets → output_of (shown_as kind) octets ≡ Err refused →
+        (Rose (I.faults input.old) (I.faults input.new) → ⊥) → (result ≡ Status.PduRefused refused.field refused.offset refused.cause) ⊎ (result ≡ Status.NoMemory) }
+    ensures complete { (octets text : List ℕ) → I.left input.old ≡ Some octets → output_of (shown_as kind) octets ≡ Ok text →
+        (Rose (I.faults input.old) (I.faults input.new) → ⊥) → (Rose (O.faults output.old) (O.faults output.new) → ⊥) → (result ≡ Status.Done) ⊎ (result ≡ Status.NoMemory) }
+
+    // It answers a fault exactly where the faults of that object rose.
+    ensures read_fault { (which : SourceName) → result ≡ Status.ReadFault which → (which ≡ SourceName.Input) × Rose (I.faults input.old) (I.faults input.new) }
+    ensures write_fault { (which : SinkName) → result ≡ Status.WriteFault which → (which ≡ SinkName.Output) × Rose (O.faults output.old) (O.faults output.new) }
+    ensures read_kept { ((which : SourceName) → result ≡ Status.ReadFault which → ⊥) → I.faults input.new ≡ I.faults input.old }
+    ensures write_kept { ((which : SinkName) → result ≡ Status.WriteFault which → ⊥) → O.faults output.new ≡ O.faults output.old }
+    ensures statuses { IsShowStatus result }
+{
+    show_status(wire_show::show(alloc, shown_as(kind), input, output))
+}
+
+// What a kind is shown as.
+fn shown_as(kind: ShowKind) -> Shown
+    ensures { result ≡ shown_as kind }
+{
+    match kind {
+        ShowKind::Pdu => Shown::Pdu,
+        ShowKind::Ntp => Shown::Ntp,
+        ShowKind::Utc => Shown::Utc,
+    }
+}
+
+// The status of a showing that ended so.
+fn show_status(end: ShowEnd) -> Status
+    ensures { result ≡ show_status end }
+{
+    match end {
+        ShowEnd::Done => Status::Done,
+        ShowEnd::Refused(refused) => Status::PduRefused {
+            field: refused.field,
+            offset: refused.offset,
+            cause: refused.cause,
+        },
+        ShowEnd::ReadFault => Status::ReadFault {
+            which: SourceName::Input,
+        },
+        ShowEnd::WriteFault => Status::WriteFault {
+            which: SinkName::Output,
+        },
+        ShowEnd::NoMemory => Status::NoMemory,
     }
 }

@@ -1,4 +1,4 @@
-ghost use Rattle.std.specs.Prelude.{◌≡◌, ◌⊎◌, ℕ, List, [], map, vec_len, Some, false};
+ghost use Rattle.std.specs.Prelude.{◌≡◌, ◌⊎◌, ℕ, List, [], map, vec_len, Some, Ok, Err, false};
 ghost use Rattle.std.specs.String.{string_bytes};
 ghost use Rattle.dts_base.specs.Causes.{Rose};
 ghost use Rattle.dts_base.specs.Streams.{Wrote};
@@ -10,14 +10,18 @@ ghost use Rattle.slew_clock.specs.UsualRates.{usual_rates};
 ghost use Rattle.capture_replay.specs.Capture.{capture, unstarted};
 ghost use Rattle.utc_order.specs.Taking.{RefusesAt as RefusesLine};
 ghost use Rattle.utc_order.specs.declared.cause.OrderCause.{OrderCause};
-ghost use Rattle.dts_program.specs.Commands.{HasAnswered, HasPutInOrder, HasReplayedSafely, HasSummarised};
-ghost use Rattle.dts_program.specs.Statuses.{IsOrderStatus, IsOutputStatus, IsReplayStatus, IsUtcStatus, capture_status, utc_status};
+ghost use Rattle.dts_program.specs.Commands.{HasAnswered, HasPutInOrder, HasReplayedSafely, HasShownFields, HasSummarised};
+ghost use Rattle.dts_program.specs.Statuses.{IsOrderStatus, IsOutputStatus, IsReplayStatus, IsShowStatus, IsUtcStatus, capture_status, utc_status};
 ghost use Rattle.command_words.specs.Words.{asks, meaning_of, means};
+ghost use Rattle.dts_base.specs.declared.wire.Refused.{Refused};
+ghost use Rattle.command_words.specs.declared.command_line.ShowKind.{ShowKind};
+ghost use Rattle.wire_show.specs.Output.{output_of};
+ghost use Rattle.dts_program.specs.Kinds.{shown_as};
 ghost use Rattle.dts_program.specs.Built.{IsRefused, ReadsInput};
 ghost use Rattle.dts_program.specs.declared.status.SourceName.{SourceName};
 ghost use Rattle.dts_program.specs.declared.status.SinkName.{SinkName};
 
-use crate::command::{drill, order, replay, utc};
+use crate::command::{drill, order, replay, show, utc};
 use crate::status::{SinkName, SourceName, Status};
 use clap::Error as ClapError;
 use command_words::{CommandLine, NoCommand, read_words};
@@ -62,7 +66,7 @@ pub struct Outside<I, F, O, C, L, K, W> {
 }
 
 /// Runs a command line, the words after the program's name, over the outside that is handed in: `replay`, at the usual
-/// rates, `utc`, `order` or `drill`. The help and the version are written to the output. Each command has clauses of its own, whose
+/// rates, `utc`, `order`, `show` or `drill`. The help and the version are written to the output. Each command has clauses of its own, whose
 /// premise is that the words mean it.
 pub fn run<
     R: Threads + Wait + Sync,
@@ -121,6 +125,16 @@ pub fn run<
         ((n : ℕ) (cause : OrderCause) → RefusesLine (lines_of octets) n cause → ⊥) →
         (Rose (I.faults out.old.input) (I.faults out.new.input) → ⊥) → (Rose (O.faults out.old.output) (O.faults out.new.output) → ⊥) → (result ≡ Status.Done) ⊎ (result ≡ Status.NoMemory) }
 
+    // `show` writes the lines of the fields of the octets, and nothing where they are refused. It refuses exactly those that are wrong at a field.
+    ensures fields { (kind : ShowKind) → meaning_of (map string_bytes words.now) ≡ means (CommandLine.Show kind) → (octets : List ℕ) → I.left out.old.input ≡ Some octets →
+        HasShownFields (shown_as kind) octets (I.left out.new.input) result (O.written out.old.output) (O.written out.new.output) }
+    ensures show_refused { (kind : ShowKind) → meaning_of (map string_bytes words.now) ≡ means (CommandLine.Show kind) → (octets : List ℕ) (refused : Refused) → I.left out.old.input ≡ Some octets →
+        output_of (shown_as kind) octets ≡ Err refused →
+        (Rose (I.faults out.old.input) (I.faults out.new.input) → ⊥) → (result ≡ Status.PduRefused refused.field refused.offset refused.cause) ⊎ (result ≡ Status.NoMemory) }
+    ensures show_complete { (kind : ShowKind) → meaning_of (map string_bytes words.now) ≡ means (CommandLine.Show kind) → (octets text : List ℕ) → I.left out.old.input ≡ Some octets →
+        output_of (shown_as kind) octets ≡ Ok text →
+        (Rose (I.faults out.old.input) (I.faults out.new.input) → ⊥) → (Rose (O.faults out.old.output) (O.faults out.new.output) → ⊥) → (result ≡ Status.Done) ⊎ (result ≡ Status.NoMemory) }
+
     // `drill` writes the summary of the log of its made capture, and nothing else.
     ensures drill { (seed events : ℕ) → meaning_of (map string_bytes words.now) ≡ means (CommandLine.Drill seed events) →
         HasSummarised seed events result (O.written out.old.output) (O.written out.new.output) }
@@ -129,6 +143,7 @@ pub fn run<
     ensures replay_statuses { meaning_of (map string_bytes words.now) ≡ means (CommandLine.Replay false) → IsReplayStatus result }
     ensures utc_statuses { meaning_of (map string_bytes words.now) ≡ means CommandLine.Utc → IsUtcStatus result }
     ensures order_statuses { meaning_of (map string_bytes words.now) ≡ means CommandLine.Order → IsOrderStatus result }
+    ensures show_statuses { (kind : ShowKind) → meaning_of (map string_bytes words.now) ≡ means (CommandLine.Show kind) → IsShowStatus result }
     ensures drill_statuses { (seed events : ℕ) → meaning_of (map string_bytes words.now) ≡ means (CommandLine.Drill seed events) → IsOutputStatus result }
 
     // A fault is answered exactly where the faults of that object rose: where none is answered they stayed.
@@ -143,6 +158,7 @@ pub fn run<
         }
         Ok(CommandLine::Utc) => utc(alloc, &mut out.input, &mut out.output),
         Ok(CommandLine::Order) => order(alloc, &mut out.input, &mut out.output),
+        Ok(CommandLine::Show(kind)) => show(alloc, kind, &mut out.input, &mut out.output),
         Ok(CommandLine::Drill { seed, events }) => drill(alloc, seed, events, &mut out.output),
         Err(NoCommand::Shown(text)) => show_text(alloc, &text, &mut out.output),
         Err(NoCommand::NoMemory) => Status::NoMemory,

@@ -1,3 +1,4 @@
+use dts_base::{Field, WireCause};
 use dts_capture::LineCause;
 use thiserror::Error;
 use utc_calculator::UtcCause;
@@ -81,6 +82,17 @@ pub enum Status {
         /// What is wrong with it.
         cause: UtcCause,
     },
+    /// The octets that were to be shown, or the line that was to spell them, are refused at their first wrong field;
+    /// nothing was written.
+    #[error("{field} at octet {offset}: {}", told(*cause))]
+    PduRefused {
+        /// The field.
+        field: Field,
+        /// The offset of its first octet, from 0.
+        offset: u32,
+        /// What is wrong with it.
+        cause: WireCause,
+    },
     /// A line to be ordered is refused; nothing was written.
     #[error("line {line}: {cause}")]
     OrderRefused {
@@ -107,7 +119,19 @@ impl Status {
             Status::WriteFault { .. } => 5,
             Status::NoMemory => 6,
             Status::UtcRefused { .. } => 7,
+            Status::PduRefused { .. } => 8,
             Status::OrderRefused { .. } => 14,
         }
+    }
+}
+
+// What is wrong with a field, and what would be right.
+fn told(cause: WireCause) -> &'static str {
+    match cause {
+        WireCause::Short => "the octets end before this field does",
+        WireCause::Value =>
+            "this field can't have this value; docs/formats.md has those that are right",
+        WireCause::Extra => "octets stand behind the last field, and none may",
+        WireCause::Long => "more than 5840 octets, and a PDU has no more",
     }
 }

@@ -6,7 +6,8 @@ use crate::sides;
 use crate::status::{SinkName, SourceName, Status};
 use command_words::{CommandLine, HalfOptions, NoCommand, ShowKind, read_words};
 use dts_base::{
-    MemoryLink, MemoryOscillator, MemorySink, MemorySource, MemoryWords, NoMemory, Text,
+    Field, MemoryLink, MemoryOscillator, MemorySink, MemorySource, MemoryWords, NoMemory, Text,
+    WireCause,
 };
 use dts_capture::LineCause;
 use std::alloc::{AllocError, Global};
@@ -283,6 +284,21 @@ const ORDERED: &str = "< 1 1970-01-01-00:00:05I0 b
 const DRILLED: &str =
     "drill seed 1 events 1 records 2 steps 0 readings 0 unspecified 0 adopted 0 split 0 short 0 false 0\n";
 
+// A bind, its fields, and the same with two wrong octets.
+const BIND: &str =
+    "05000b03100000004800000001000000d016d016000000000100000000000100105a0e6a523c7e4b9d215e8f7c1a2b3001000000045d888aeb1cc9119fe808002b10486002000000";
+
+const FIELDS: &str =
+    "0 rpc_vers 05\n1 rpc_vers_minor 00\n2 ptype 0b\n3 pfc_flags 03\n4 drep_order 10\n5 drep_rest 000000\n8 frag_length 4800\n10 auth_length 0000\n12 call_id 01000000\n16 max_xmit_frag d016\n18 max_recv_frag d016\n20 assoc_group_id 00000000\n24 n_context_elem 01\n25 reserved 000000\n28 p_cont_id 0000\n30 n_transfer_syn 01\n31 reserved 00\n32 abstract_uuid 105a0e6a523c7e4b9d215e8f7c1a2b30\n48 version 01000000\n52 transfer_uuid 045d888aeb1cc9119fe808002b104860\n68 version 02000000\n";
+
+const WRONG_BIND: &str =
+    "05000b03100000004800080001000000d016d016000000000100000000000000105a0e6a523c7e4b9d215e8f7c1a2b3001000000045d888aeb1cc9119fe808002b10486002000000";
+
+const EPOCH: &str = "00408113d21db2010000000000000010\n";
+
+const EPOCH_FIELDS: &str =
+    "0 time 00408113d21db201\n8 inaccuracy 000000000000\n14 tdf_version 0010\n";
+
 #[test]
 fn built_commands_run_and_others_are_usage(rt: HostRuntime) -> Result<(), Fail> {
     let word = Status::UtcRefused {
@@ -298,6 +314,11 @@ fn built_commands_run_and_others_are_usage(rt: HostRuntime) -> Result<(), Fail> 
     let no_host = Status::OrderRefused {
         line: 2,
         cause: OrderCause::Host,
+    };
+    let pdu_refused = |field, offset, cause| Status::PduRefused {
+        field,
+        offset,
+        cause,
     };
     let record = "record 0 0 0 - - - 0 1 0 0 0\n";
     for (line, input, status, want) in [
@@ -327,7 +348,20 @@ fn built_commands_run_and_others_are_usage(rt: HostRuntime) -> Result<(), Fail> 
         ("replay --roster", "start 0 1 unknown", Status::Usage, ""),
         ("clerk", "", Status::Usage, ""),
         ("server --workers 2", "", Status::Usage, ""),
-        ("show pdu", "05", Status::Usage, ""),
+        ("show pdu", BIND, Status::Done, FIELDS),
+        (
+            "show pdu",
+            WRONG_BIND,
+            pdu_refused(Field::AuthLength, 10, WireCause::Value),
+            "",
+        ),
+        (
+            "show ntp",
+            "24",
+            pdu_refused(Field::NtpLength, 1, WireCause::Short),
+            "",
+        ),
+        ("show utc", EPOCH, Status::Done, EPOCH_FIELDS),
         ("drill 1 1", "", Status::Done, DRILLED),
         ("control 127.0.0.1:7001 show", "", Status::Usage, ""),
     ] {
@@ -409,6 +443,14 @@ fn statuses_have_their_numbers_and_texts(rt: HostRuntime) -> Result<(), Fail> {
         "line 3, column 1: no result: the kinds of the operands do not allow it; add takes one moment at most, \
                 sub no moment from a length of time, abs and mul a length, tdf a moment, and the others two of one kind";
     tells(&rt, alloc, refused, 7, text)?;
+    let refused = Status::PduRefused {
+        field: Field::AuthLength,
+        offset: 10,
+        cause: WireCause::Value,
+    };
+    let text =
+        "auth_length at octet 10: this field can't have this value; docs/formats.md has those that are right";
+    tells(&rt, alloc, refused, 8, text)?;
     let refused = Status::OrderRefused {
         line: 2,
         cause: OrderCause::Backward { earlier: 1 },

@@ -7,7 +7,8 @@ use Rattle.utc_calculator.specs.declared.cause.UtcRefusal.{UtcRefusal}
 use Rattle.utc_calculator.specs.Answers.{calculator}
 use Rattle.event_drill.specs.declared.command.DrillStop.TheVariants as drill_stop
 use Rattle.dts_program.specs.declared.status.Status.TheVariants as status
-use Rattle.dts_program.proofs.Ending.{nothing_answered, nothing_ordered, nothing_replayed}
+use Rattle.dts_program.specs.Kinds.{shown_as}
+use Rattle.dts_program.proofs.Ending.{nothing_answered, nothing_ordered, nothing_replayed, nothing_shown}
 use Rattle.dts_program.proofs.outside.run.Goals as goal
 
 pub returns-in-Ok-Replay-false-clause-complete : goal.returns-in-Ok-Replay-false-clause-complete
@@ -30,3 +31,6 @@ returns-in-Err-NoMemory-clause-drill g c = λ seed events is. record { end = Err
 
 pub returns-in-Err-NoMemory-clause-ordered : goal.returns-in-Err-NoMemory-clause-ordered
 returns-in-Err-NoMemory-clause-ordered g c = λ is octets there. nothing_ordered octets _ _ there
+
+pub returns-in-Err-NoMemory-clause-fields : goal.returns-in-Err-NoMemory-clause-fields
+returns-in-Err-NoMemory-clause-fields g c = λ kind is octets there. nothing_shown (shown_as kind) octets _ _ there
