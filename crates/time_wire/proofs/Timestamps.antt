@@ -20,7 +20,8 @@ use Rattle.utc_value.specs.Octets.{octets_of, version_of, version_in, tdf_in, Is
 use Rattle.utc_value.proofs.OctetLaws.{octets_version, octets_tdf}
 use Rattle.time_wire.specs.declared.TheConstants.{UTC_SIZE}
 use Rattle.time_wire.proofs.Booleans.{passed, passes, fails, both, either}
-use Rattle.time_wire.specs.Layouts.{is_tdf, is_tdf_of, is_timestamp, timestamp}
+use Rattle.time_wire.specs.Layouts.{is_timestamp, timestamp}
+use Rattle.time_wire.specs.Timestamps.{is_tdf, is_tdf_of, is_stamp}
 
 tdf_passes : (t : ℤ) → IsTdf t → is_tdf t ≡ true
 tdf_passes t h = rw (passed (int_le (neg_ℤ MAX_TDF) t) h.0.le, passed (int_le t MAX_TDF) h.1.le) refl
@@ -50,16 +51,16 @@ version_is version t e = elim (either ((version == 1) && is_tdf t) ((version == 
 ]
 
 -- the octets of a timestamp are right
-pub stamp_is_right : (s : Stamp) → IsInRange s → is_timestamp (some_octets (octets_of s)) ≡ true
+pub stamp_is_right : (s : Stamp) → IsInRange s → is_stamp (octets_of s) ≡ true
 stamp_is_right s h = rw (octets_version s h, octets_tdf s h) (kind_passes s.kind s.tdf h.tdf_fits)
 
 -- octets that are refused are not
-not_refused : (os : List ℕ) (fault : BytesFault) → RefusesOctets os fault → ¬ (is_timestamp (some_octets os) ≡ true)
+not_refused : (os : List ℕ) (fault : BytesFault) → RefusesOctets os fault → ¬ (is_stamp os ≡ true)
 not_refused os (Version found) h e = h.1 (subst IsVersion (sym h.0) (version_is (version_in os) (tdf_in os) e).0)
 not_refused os (Tdf found) h e = h.2 (rw h.0 (version_is (version_in os) (tdf_in os) e).1)
 
-pub refused_is_wrong : (os : List ℕ) (fault : BytesFault) → RefusesOctets os fault → is_timestamp (some_octets os) ≡ false
-refused_is_wrong os fault h = fails (is_timestamp (some_octets os)) (not_refused os fault h)
+pub refused_is_wrong : (os : List ℕ) (fault : BytesFault) → RefusesOctets os fault → is_stamp os ≡ false
+refused_is_wrong os fault h = fails (is_stamp os) (not_refused os fault h)
 
 -- the field of a timestamp, from its octets
 timestamp_of : Cursor → Result (List ℕ × Cursor) Refused → Result (Value × Cursor) Refused
@@ -73,7 +74,7 @@ pub timestamp_read : (c c' : Cursor) (os : List ℕ) (s : Stamp) → read_octets
     → octets_of s ≡ os → read_entry timestamp c ≡ Ok (some_octets (octets_of s), c')
 unfolding timestamp_of checks
 timestamp_read c c' os s read range same =
-    let right : is_timestamp (some_octets os) ≡ true = ap (λ o. is_timestamp (some_octets o)) (sym same) ∙ stamp_is_right s range in
+    let right : is_stamp os ≡ true = ap is_stamp (sym same) ∙ stamp_is_right s range in
     let given : List ℕ → Result (Value × Cursor) Refused = λ o. Ok (some_octets o, c') in
     ap (timestamp_of c) read ∙ ap (checks c c' os) right ∙ ap given (sym same)
 

@@ -1,16 +1,15 @@
 -- The stubs of the time operations, each a list of fields in NDR (C706, chapter 14). After C310, our own choice.
-use Rattle.std.specs.Prelude.{ℕ, ℤ, pos, neg_ℤ, Bool, true, false, ◌&&◌, ◌||◌, ◌==◌, nat_le, int_le, List, [], ◌∷◌}
-use Rattle.std.specs.Ordering.{int_eq}
+use Rattle.std.specs.Prelude.{ℕ, Bool, true, false, ◌&&◌, nat_le, List, [], ◌∷◌}
 use Rattle.dts_base.specs.declared.wire.Field.{Field}
 use Rattle.dts_base.specs.declared.wire.Field.TheVariants as field
 use Rattle.ndr.specs.Stubs.{Entry, Shape, Value, number, octets, string, a_number, some_octets}
-use Rattle.utc_value.specs.declared.TheConstants.{MAX_TDF}
-use Rattle.utc_value.specs.Octets.{octets_of, version_in, tdf_in}
+use Rattle.utc_value.specs.Octets.{octets_of}
 use Rattle.time_wire.specs.declared.TheConstants.{WIRE_VERSION, MAX_ROLE, MAX_COURIER, UTC_SIZE}
 use Rattle.time_wire.specs.declared.message.GetTime.{GetTime}
 use Rattle.time_wire.specs.declared.message.TimeReply.{TimeReply}
 use Rattle.time_wire.specs.declared.message.InfoReply.{InfoReply}
 use Rattle.time_wire.specs.declared.message.CommandReply.{CommandReply}
+use Rattle.time_wire.specs.Timestamps.{is_stamp}
 
 -- the stub of a message: its fields, and the values that a message gives them
 pub record Layout (M : Type 0) : Type 0 where
@@ -30,17 +29,9 @@ is_between least most (some_octets os) = false
 abbrev pub octet_between : Field → ℕ → ℕ → Entry
 octet_between f least most = record { field = f; shape = number 1; right = is_between least most }
 
--- a time differential factor of less than a day either way
-abbrev pub is_tdf : ℤ → Bool
-is_tdf t = int_le (neg_ℤ MAX_TDF) t && int_le t MAX_TDF
-
--- the time differential factors of the versions: version 1 may have any, and version 2 has none
-abbrev pub is_tdf_of : ℕ → ℤ → Bool
-is_tdf_of version t = ((version == 1) && is_tdf t) || ((version == 2) && int_eq t (pos 0))
-
 -- the octets of a timestamp
 abbrev pub is_timestamp : Value → Bool
-is_timestamp (some_octets os) = is_tdf_of (version_in os) (tdf_in os)
+is_timestamp (some_octets os) = is_stamp os
 is_timestamp (a_number n) = false
 
 -- a timestamp, whose octets have one order in either byte order of the stub

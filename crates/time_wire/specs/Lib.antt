@@ -1,3 +1,4 @@
+pub mod Timestamps
 pub mod Layouts
 pub mod Spelling
 pub mod Parts

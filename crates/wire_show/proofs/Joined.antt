@@ -9,12 +9,12 @@ use Rattle.ndr.specs.Reading.{after}
 use Rattle.pdu_fields.specs.Tables.{Table, Ends, Kept, Passed, Padded, Rest, size_of, value_in, reading}
 use Rattle.ntp_packet.specs.Packets.{reading as packet}
 use Rattle.pdu_fields.specs.Grammar.{table_of}
-use Rattle.utc_value.specs.Octets.{version_in, tdf_in}
+use Rattle.time_wire.specs.Timestamps.{is_stamp}
 use Rattle.wire_show.specs.declared.end.Shown.{Shown}
 use Rattle.wire_show.specs.declared.end.Shown.TheVariants.{Pdu, Ntp, Utc}
 use Rattle.wire_show.specs.declared.utc.TheConstants.{UTC_SIZE}
 use Rattle.wire_show.specs.Fields.{Part, tail_at, parts_by, Sized, parts_of}
-use Rattle.wire_show.specs.Output.{is_tdf_of, ntp_fields, utc_fields, parts_as}
+use Rattle.wire_show.specs.Output.{ntp_fields, utc_fields, parts_as}
 use Rattle.wire_show.specs.Laws.{joined, BeginAt}
 
 joined_tail : (at : ℕ) (left : List ℕ) → joined (tail_at at left) ≡ left
@@ -72,7 +72,7 @@ parts_joined Pdu octets parts e =
 parts_joined Ntp octets parts e =
     subst (λ ps. joined ps ≡ octets) (after_ok (packet octets) (parts_of ntp_fields 0 octets) parts e) (joined_of ntp_fields 0 octets)
 parts_joined Utc octets parts e =
-    subst (λ ps. joined ps ≡ octets) (if_ok (nat_lt (length octets) UTC_SIZE) (nat_lt UTC_SIZE (length octets)) (is_tdf_of (version_in octets) (tdf_in octets)) _ _ _ (parts_of utc_fields 0 octets) parts e) (joined_of utc_fields 0 octets)
+    subst (λ ps. joined ps ≡ octets) (if_ok (nat_lt (length octets) UTC_SIZE) (nat_lt UTC_SIZE (length octets)) (is_stamp octets) _ _ _ (parts_of utc_fields 0 octets) parts e) (joined_of utc_fields 0 octets)
 
 pub parts_begin : (kind : Shown) (octets : List ℕ) (parts : List Part) → parts_as kind octets ≡ Ok parts → BeginAt 0 parts
 parts_begin Pdu octets parts e =
@@ -80,7 +80,7 @@ parts_begin Pdu octets parts e =
 parts_begin Ntp octets parts e =
     subst (λ ps. BeginAt 0 ps) (after_ok (packet octets) (parts_of ntp_fields 0 octets) parts e) (begin_of ntp_fields 0 octets)
 parts_begin Utc octets parts e =
-    subst (λ ps. BeginAt 0 ps) (if_ok (nat_lt (length octets) UTC_SIZE) (nat_lt UTC_SIZE (length octets)) (is_tdf_of (version_in octets) (tdf_in octets)) _ _ _ (parts_of utc_fields 0 octets) parts e) (begin_of utc_fields 0 octets)
+    subst (λ ps. BeginAt 0 ps) (if_ok (nat_lt (length octets) UTC_SIZE) (nat_lt UTC_SIZE (length octets)) (is_stamp octets) _ _ _ (parts_of utc_fields 0 octets) parts e) (begin_of utc_fields 0 octets)
 
 -- a result is one of two
 pub either_result : {A : Type 0} (r : Result A Refused) → ((x : A) × (r ≡ Ok x)) ⊎ ((refused : Refused) × (r ≡ Err refused))

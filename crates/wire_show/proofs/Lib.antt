@@ -3,7 +3,6 @@ pub mod Pairs
 pub mod Prefix
 pub mod Steps
 pub mod Tables
-pub mod Stamps
 pub mod Joined
 pub mod Held
 pub mod ReadBack

@@ -1,5 +1,5 @@
 -- What is written for an input, or why it is refused. Our own choice, after C706 and C310.
-use Rattle.std.specs.Prelude.{ℕ, ℤ, pos, neg_ℤ, int_le, Bool, ◌&&◌, ◌||◌, ◌==◌, nat_lt, if◌then◌else◌, List, [], ◌∷◌, map, length, codes, Result, Ok, Err}
+use Rattle.std.specs.Prelude.{ℕ, nat_lt, if◌then◌else◌, List, [], ◌∷◌, map, length, codes, Result, Ok, Err}
 use Rattle.dts_base.specs.declared.wire.Field.TheVariants as field
 use Rattle.dts_base.specs.declared.wire.WireCause.TheVariants as cause
 use Rattle.dts_base.specs.declared.wire.Refused.{Refused}
@@ -10,9 +10,7 @@ use Rattle.ntp_packet.specs.declared.field.PacketField.{PacketField}
 use Rattle.ntp_packet.specs.declared.field.TheConstants.{FIELDS}
 use Rattle.pdu_fields.specs.Tables.{reading}
 use Rattle.pdu_fields.specs.Grammar.{table_of}
-use Rattle.utc_value.specs.Octets.{version_in, tdf_in}
-use Rattle.utc_value.specs.declared.TheConstants.{MAX_TDF}
-use Rattle.std.specs.Ordering.{int_eq}
+use Rattle.time_wire.specs.Timestamps.{is_stamp}
 use Rattle.wire_show.specs.declared.end.Shown.{Shown}
 use Rattle.wire_show.specs.declared.end.Shown.TheVariants.{Pdu, Ntp, Utc}
 use Rattle.wire_show.specs.declared.utc.TheConstants.{UTC_SIZE, LAST_FIELD}
@@ -38,16 +36,12 @@ ntp_parts octets = after (packet octets) (λ said. Ok (parts_of ntp_fields 0 oct
 abbrev pub utc_fields : List Sized
 utc_fields = record { name = codes "time"; size = 8 } ∷ record { name = codes "inaccuracy"; size = 6 } ∷ record { name = codes "tdf_version"; size = 2 } ∷ []
 
--- a time differential factor that version 1 may have, which is less than a day either way, or version 2, which has none
-abbrev pub is_tdf_of : ℕ → ℤ → Bool
-is_tdf_of version t = ((version == 1) && (int_le (neg_ℤ MAX_TDF) t && int_le t MAX_TDF)) || ((version == 2) && int_eq t (pos 0))
-
 -- the fields of a timestamp: sixteen octets of a version that there is, with a time differential factor that it may have
 abbrev pub utc_parts : List ℕ → Result (List Part) Refused
 utc_parts octets =
     if nat_lt (length octets) UTC_SIZE then Err (refusal field.UtcOctets (length octets) cause.Short)
     else if nat_lt UTC_SIZE (length octets) then Err (refusal field.UtcOctets UTC_SIZE cause.Extra)
-    else if is_tdf_of (version_in octets) (tdf_in octets) then Ok (parts_of utc_fields 0 octets)
+    else if is_stamp octets then Ok (parts_of utc_fields 0 octets)
     else Err (refusal field.UtcOctets LAST_FIELD cause.Value)
 
 -- the fields of octets that are shown as this

@@ -1,23 +1,21 @@
 use Rattle.std.proofs.Common.{arith}
 use Rattle.time_wire.specs.Layouts.{command}
-use Rattle.time_wire.proofs.Remaining.{none_read, string_read, string_refused, all_read, octet_left}
+use Rattle.time_wire.proofs.Remaining.{stub_read, string_read, string_passed, string_refused, all_read, octet_left}
 use Rattle.time_wire.proofs.decoding.read_command.Goals as goal
 
 pub returns-in_err-text : goal.returns-in_err-text
 returns-in_err-text c =
-    let first = none_read command.fields c.args.e c.args.b.now c.new-reader.ensures.first in
-    let whole = string_refused first c.in_err-text.ensures.string.0 in
+    let whole = stub_read command.fields c.new-reader.ensures.first (string_refused c.in_err-text.ensures.string.0) in
     grind (arith, whole)
 
 pub returns-in_err-finish : goal.returns-in_err-finish
 returns-in_err-finish c =
-    let first = none_read command.fields c.args.e c.args.b.now c.new-reader.ensures.first in
-    let text = string_read first c.in_ok-text.ensures.string in
-    let whole = octet_left text c.in_err-finish.ensures.end in
+    let whole =
+    stub_read command.fields c.new-reader.ensures.first
+    (string_passed c.in_ok-text.ensures.string (octet_left c.in_err-finish.ensures.end)) in
     grind (arith, whole)
 
 pub returns : goal.returns
 returns c =
-    let first = none_read command.fields c.args.e c.args.b.now c.new-reader.ensures.first in
-    let text = string_read first c.in_ok-text.ensures.string in
-    all_read text c.in_ok-finish.ensures.end
+    stub_read command.fields c.new-reader.ensures.first
+    (string_read c.in_ok-text.ensures.string (all_read c.in_ok-finish.ensures.end))
