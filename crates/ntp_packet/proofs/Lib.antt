@@ -3,4 +3,4 @@ pub mod Rounding
 pub mod EraLaws
 pub mod TrueTime
 pub mod Octets
-mod Rows
+pub mod Rows

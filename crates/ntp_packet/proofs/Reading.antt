@@ -1,6 +1,7 @@
 -- Which packet octets spell, and what is refused.
 use Rattle.std.proofs.Common.{◌≡◌, ℕ, ◌<◌, ◌≤◌, true, false, List, length, Some, None, Result, Ok, Err, ◌↔◌, inl, inr, refl, sym, ap, ◌∙◌, arith, lt-ltb, le-ltb, le-leb}
 use Rattle.std.proofs.lemmas.Bool.{cases_lt, lt-leb}
+use Rattle.std.proofs.Math.Path.{fun_ext}
 use Rattle.dts_base.specs.declared.wire.Field.TheVariants as wire
 use Rattle.dts_base.specs.declared.wire.WireCause.TheVariants as cause
 use Rattle.dts_base.specs.declared.wire.Refused.{Refused}
@@ -20,57 +21,35 @@ same_parts p q h k e =
     let version : p.version ≡ q.version = omega (arith, e, li, h.mode, k.mode) in
     (li, version, omega (arith, e, li, version))
 
+-- the packet that has these parts in its first field, and these numbers in the others
+packet_of : ℕ → ℕ → ℕ → (PacketField → ℕ) → Packet
+packet_of li version mode held = record {
+  li = li;
+  version = version;
+  mode = mode;
+  stratum = held field.Stratum;
+  poll = held field.Poll;
+  precision = held field.Precision;
+  delay = held field.RootDelay;
+  dispersion = held field.RootDispersion;
+  refid = held field.ReferenceId;
+  reference = held field.Reference;
+  origin = held field.Origin;
+  receive = held field.Receive;
+  transmit = held field.Transmit;
+}
+
+-- it is one packet
+one_of : (p : Packet) (li version mode : ℕ) (held : PacketField → ℕ) → p.li ≡ li → p.version ≡ version → p.mode ≡ mode
+    → ((f : PacketField) → value_of p f ≡ held f) → packet_of p.li p.version p.mode (value_of p) ≡ packet_of li version mode held
+one_of p li version mode held first second third e = let others : value_of p ≡ held = fun_ext e in cc
+
 -- packets that hold the same in each field are one
 pub same_packet : (p q : Packet) → Fits p → Fits q → ((f : PacketField) → value_of p f ≡ value_of q f) → p ≡ q
+unfolding packet_of
 same_packet p q h k e =
     let parts = same_parts p q h k (e field.First) in
-    let whole : ◌≡◌ {A = Packet}
-    (record {
-      li = p.li;
-      version = p.version;
-      mode = p.mode;
-      stratum = p.stratum;
-      poll = p.poll;
-      precision = p.precision;
-      delay = p.delay;
-      dispersion = p.dispersion;
-      refid = p.refid;
-      reference = p.reference;
-      origin = p.origin;
-      receive = p.receive;
-      transmit = p.transmit;
-    })
-    (record {
-      li = q.li;
-      version = q.version;
-      mode = q.mode;
-      stratum = q.stratum;
-      poll = q.poll;
-      precision = q.precision;
-      delay = q.delay;
-      dispersion = q.dispersion;
-      refid = q.refid;
-      reference = q.reference;
-      origin = q.origin;
-      receive = q.receive;
-      transmit = q.transmit;
-    }) =
-    rw (
-      parts.0,
-      parts.1,
-      parts.2,
-      e field.Stratum,
-      e field.Poll,
-      e field.Precision,
-      e field.RootDelay,
-      e field.RootDispersion,
-      e field.ReferenceId,
-      e field.Reference,
-      e field.Origin,
-      e field.Receive,
-      e field.Transmit,
-    ) refl in
-    whole
+    one_of p q.li q.version q.mode (value_of q) parts.0 parts.1 parts.2 e
 
 -- the version of what was read is the one that stands there
 pub version_read : (p : Packet) (b : List ℕ) → Fits p → value_of p field.First ≡ number_at b field.First → version_in b ≡ p.version
@@ -133,44 +112,12 @@ not_refused b q refused s = let right = spelled_right q b s in (λ e. absurd (cc
 
 -- the packet that octets spell is the one that is read
 pub spelled_in : (p : Packet) (b : List ℕ) → Fits p → ((f : PacketField) → value_of p f ≡ number_at b f) → p ≡ packet_in b
+unfolding packet_of
 spelled_in p b h e =
     let first = e field.First in
     let li : p.li ≡ (packet_in b).li = omega (arith, first, h.version, h.mode) in
-    let version : p.version ≡ (packet_in b).version = sym (version_read p b h first) in
     let mode : p.mode ≡ (packet_in b).mode = omega (arith, first, h.mode) in
-    let whole : ◌≡◌ {A = Packet}
-    (record {
-      li = p.li;
-      version = p.version;
-      mode = p.mode;
-      stratum = p.stratum;
-      poll = p.poll;
-      precision = p.precision;
-      delay = p.delay;
-      dispersion = p.dispersion;
-      refid = p.refid;
-      reference = p.reference;
-      origin = p.origin;
-      receive = p.receive;
-      transmit = p.transmit;
-    })
-    (packet_in b) =
-    rw (
-      li,
-      version,
-      mode,
-      e field.Stratum,
-      e field.Poll,
-      e field.Precision,
-      e field.RootDelay,
-      e field.RootDispersion,
-      e field.ReferenceId,
-      e field.Reference,
-      e field.Origin,
-      e field.Receive,
-      e field.Transmit,
-    ) refl in
-    whole
+    one_of p (packet_in b).li (version_in b) (packet_in b).mode (number_at b) li (sym (version_read p b h first)) mode e
 
 pub reading_right : (p : Packet) (b : List ℕ) → Spells p b → Ok p ≡ reading b
 unfolding reading

@@ -3,31 +3,19 @@ use Rattle.std.proofs.Common.{◌≡◌, ℕ, pos, negsuc, [], ◌∷◌, ◌++�
 use Rattle.dts_base.specs.declared.wire.Field.TheVariants as wire
 use Rattle.dts_base.specs.declared.wire.WireCause.TheVariants as cause
 use Rattle.ntp_packet.specs.declared.codec.Packet.{Packet}
+use Rattle.ntp_packet.specs.declared.codec.TheConstants.{ZERO_PACKET}
 use Rattle.ntp_packet.specs.declared.judging.Judged.TheVariants as judged
 use Rattle.ntp_packet.specs.Packets.{octets_of, first_wrong}
 use Rattle.ntp_packet.specs.Judging.{first_failed}
 use Rattle.ntp_packet.specs.Eras.{era_of, interval_of}
 
 -- a reply of a server of stratum 1 that was sent when its query came
-reply : ℕ → ℕ → Packet
-reply origin stamp = record {
-  li = 0;
-  version = 4;
-  mode = 4;
-  stratum = 1;
-  poll = 0;
-  precision = 0;
-  delay = 1;
-  dispersion = 0;
-  refid = 0;
-  reference = 0;
-  origin = origin;
-  receive = stamp;
-  transmit = stamp;
-}
+unfoldable pub reply : ℕ → ℕ → Packet
+reply origin stamp =
+    record ZERO_PACKET { version = 4; mode = 4; stratum = 1; delay = 1; origin = origin; receive = stamp; transmit = stamp }
 
 -- 2020-01-01 and the least fraction of a second
-stamp : ℕ
+unfoldable pub stamp : ℕ
 stamp = 0xe1b65f8000000001
 
 its_octets : octets_of (reply 1 stamp)
@@ -51,21 +39,7 @@ unfolding reply stamp first_failed
 reply_to_another_query = refl
 
 -- a kiss comes before all but the mode
-kiss : first_failed (record {
-  li = 3;
-  version = 4;
-  mode = 4;
-  stratum = 0;
-  poll = 0;
-  precision = 0;
-  delay = 0;
-  dispersion = 0;
-  refid = 0x52415445;
-  reference = 0;
-  origin = 0;
-  receive = 0;
-  transmit = 0;
-}) 1 ≡ Some (judged.Kiss 0x52415445)
+kiss : first_failed (record ZERO_PACKET { li = 3; version = 4; mode = 4; refid = 0x52415445 }) 1 ≡ Some (judged.Kiss 0x52415445)
 unfolding first_failed
 kiss = refl
 

@@ -47,6 +47,23 @@ pub struct Packet {
     pub transmit: u64,
 }
 
+/// A packet in which each field is 0.
+pub const ZERO_PACKET: Packet = Packet {
+    li: 0,
+    version: 0,
+    mode: 0,
+    stratum: 0,
+    poll: 0,
+    precision: 0,
+    delay: 0,
+    dispersion: 0,
+    refid: 0,
+    reference: 0,
+    origin: 0,
+    receive: 0,
+    transmit: 0,
+};
+
 // How many octets stand before the timestamps, and how many those have.
 const STAMPS_OFFSET: usize = 16;
 

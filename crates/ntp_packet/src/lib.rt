@@ -10,7 +10,7 @@ mod judging;
 mod laws;
 mod timing;
 
-pub use codec::{LEAST_VERSION, MOST_VERSION, PACKET_LENGTH, Packet, decode, encode};
+pub use codec::{LEAST_VERSION, MOST_VERSION, PACKET_LENGTH, Packet, ZERO_PACKET, decode, encode};
 pub use field::{FIELDS, PacketField};
 pub use judging::{Judged, MAX_DISTANCE, MAX_STRATUM, SERVER_MODE, UNSYNCHRONISED, held, judge};
 pub use laws::{

@@ -3,6 +3,7 @@ use Rattle.std.specs.Prelude.{ℕ, ◌+◌, ◌%◌, ◌^◌, Bool, true, false,
 use Rattle.std.specs.Int.{int_max}
 use Rattle.std.specs.List.{list_any}
 use Rattle.ntp_packet.specs.declared.codec.Packet.{Packet}
+use Rattle.ntp_packet.specs.declared.codec.TheConstants.{ZERO_PACKET}
 use Rattle.ntp_packet.specs.declared.judging.Judged.{Judged}
 use Rattle.ntp_packet.specs.Packets.{reading}
 use Rattle.ntp_packet.specs.Judging.{first_failed}
@@ -122,18 +123,4 @@ polled_with past poll = record { peers = past.peers; polled = Some poll; deeds =
 
 -- a query: all fields but the version, the mode of a client and the transmit timestamp are 0 (RFC 5905, section 14)
 abbrev pub query_packet : ℕ → Packet
-query_packet origin = record {
-  li = 0;
-  version = 4;
-  mode = 3;
-  stratum = 0;
-  poll = 0;
-  precision = 0;
-  delay = 0;
-  dispersion = 0;
-  refid = 0;
-  reference = 0;
-  origin = 0;
-  receive = 0;
-  transmit = origin;
-}
+query_packet origin = record ZERO_PACKET { version = 4; mode = 3; transmit = origin }

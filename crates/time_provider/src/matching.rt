@@ -8,7 +8,7 @@ ghost use Rattle.ntp_packet.specs.Packets.{reading};
 use crate::limits::GREATEST_TIME;
 use crate::{ProviderFault, Triple};
 use dts_base::Interval;
-use ntp_packet::{PACKET_LENGTH, Packet, decode, encode, interval, judge};
+use ntp_packet::{PACKET_LENGTH, Packet, ZERO_PACKET, decode, encode, interval, judge};
 
 // The version and the mode of a query.
 const CLIENT_VERSION: u8 = 4;
@@ -36,19 +36,10 @@ pub(crate) fn query_octets(origin: u64) -> [u8; PACKET_LENGTH]
     ensures { result ≡ octets_of (query_packet origin) }
 {
     encode(&Packet {
-        li: 0,
         version: CLIENT_VERSION,
         mode: CLIENT_MODE,
-        stratum: 0,
-        poll: 0,
-        precision: 0,
-        delay: 0,
-        dispersion: 0,
-        refid: 0,
-        reference: 0,
-        origin: 0,
-        receive: 0,
         transmit: origin,
+        ..ZERO_PACKET
     })
 }
 
