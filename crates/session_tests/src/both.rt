@@ -137,34 +137,38 @@ fn a_stub_has_65_536_octets_at_most(rt: HostRuntime) {
     assert!(rt; right && last == 1584);
 }
 
-// What a server gives to fragments, the last of which gives one Call.
-fn called(
-    rt: &impl Abort,
-    alloc: Global,
-    server: &mut ServerSession,
-    sent: &[Pdu],
-) -> Option<Bytes> {
-    for part in sent {
-        let outs = server.take(alloc, part).expect(rt, "a fragment");
-        for out in outs {
-            if let Out::Call { stub, .. } = out {
-                return Some(stub);
-            }
-        }
-    }
-    None
+// An end of a session, which takes what the other one sent.
+trait End {
+    // The stub that a fragment ends, where it ends one.
+    fn hear(&mut self, alloc: Global, part: &Pdu) -> Result<Option<Bytes>, SessionFault>;
 }
 
-fn replied(
-    rt: &impl Abort,
-    alloc: Global,
-    client: &mut ClientSession,
-    sent: &[Pdu],
-) -> Option<Bytes> {
+impl End for ServerSession {
+    fn hear(&mut self, alloc: Global, part: &Pdu) -> Result<Option<Bytes>, SessionFault> {
+        for out in self.take(alloc, part)? {
+            if let Out::Call { stub, .. } = out {
+                return Ok(Some(stub));
+            }
+        }
+        Ok(None)
+    }
+}
+
+impl End for ClientSession {
+    fn hear(&mut self, alloc: Global, part: &Pdu) -> Result<Option<Bytes>, SessionFault> {
+        match self.take(alloc, part)? {
+            ClientOut::Reply { stub, .. } => Ok(Some(stub)),
+            _ => Ok(None),
+        }
+    }
+}
+
+// The stub that fragments are of.
+fn heard<E: End>(rt: &impl Abort, alloc: Global, end: &mut E, sent: &[Pdu]) -> Option<Bytes> {
     for part in sent {
-        let out = client.take(alloc, part).expect(rt, "a fragment");
-        if let ClientOut::Reply { stub, .. } = out {
-            return Some(stub);
+        let stub = end.hear(alloc, part).expect(rt, "a fragment");
+        if stub.is_some() {
+            return stub;
         }
     }
     None
@@ -182,14 +186,34 @@ fn what_is_sent_comes_whole(rt: HostRuntime) {
         let length = (*row).min(stub.len()).min(65_536);
         let part = &stub[..length];
         let (call_id, sent) = client.request(alloc, 1, part).expect(&rt, "bound");
-        let given = called(&rt, alloc, &mut server, sent.as_slice()).expect(&rt, "a call");
+        let given = heard(&rt, alloc, &mut server, sent.as_slice()).expect(&rt, "a call");
         assert!(rt; given.as_slice() == part, "request of {length}");
         let sent = server
             .reply(alloc, call_id, 0, Endian::Big, part)
             .expect(&rt, "memory");
-        let given = replied(&rt, alloc, &mut client, sent.as_slice()).expect(&rt, "a reply");
+        let given = heard(&rt, alloc, &mut client, sent.as_slice()).expect(&rt, "a reply");
         assert!(rt; given.as_slice() == part, "response of {length}");
     }
+}
+
+// An end takes these fragments of a stub of 65,536 octets, none of which is the last one, and refuses one more.
+fn expect_full<E: End>(rt: &impl Abort, alloc: Global, end: &mut E, sent: Vec<Pdu>, more: &str) {
+    for part in sent {
+        let mut part = part;
+        part.flags &= 1;
+        let answer = end.hear(alloc, &part);
+        assert!(rt; answer.is_ok());
+    }
+    let more = pdu(rt, alloc, more);
+    let answer = end.hear(alloc, &more);
+    let refused = matches!(
+        &answer,
+        Err(SessionFault::Fragments {
+            have: 65_537,
+            limit: 65_536
+        })
+    );
+    assert!(rt; refused);
 }
 
 #[test]
@@ -202,49 +226,13 @@ fn an_octet_too_many_is_refused_by_both(rt: HostRuntime) {
         .request(alloc, 0, stub.as_slice())
         .expect(&rt, "bound")
         .1;
-    for part in sent {
-        let mut part = part;
-        part.flags &= 1;
-        let answer = server.take(alloc, &part);
-        assert!(rt; answer.is_ok());
-    }
-    let more = pdu(
-        &rt,
-        alloc,
-        "0500000010000000190000000200000001000000000000000c",
-    );
-    let answer = server.take(alloc, &more);
-    let refused = matches!(
-        &answer,
-        Err(SessionFault::Fragments {
-            have: 65_537,
-            limit: 65_536
-        })
-    );
-    assert!(rt; refused);
+    let more = "0500000010000000190000000200000001000000000000000c";
+    expect_full(&rt, alloc, &mut server, sent, more);
     let sent = server
         .reply(alloc, 2, 0, Endian::Little, &stub[..stub.len().min(65_536)])
         .expect(&rt, "memory");
-    for part in sent {
-        let mut part = part;
-        part.flags &= 1;
-        let answer = client.take(alloc, &part);
-        assert!(rt; answer.is_ok());
-    }
-    let more = pdu(
-        &rt,
-        alloc,
-        "0500020010000000190000000200000001000000000000000c",
-    );
-    let answer = client.take(alloc, &more);
-    let refused = matches!(
-        &answer,
-        Err(SessionFault::Fragments {
-            have: 65_537,
-            limit: 65_536
-        })
-    );
-    assert!(rt; refused);
+    let more = "0500020010000000190000000200000001000000000000000c";
+    expect_full(&rt, alloc, &mut client, sent, more);
 }
 
 #[test]

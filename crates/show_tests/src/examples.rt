@@ -1,6 +1,19 @@
 //! PDUs of each kind after C706, chapter 12, with the lines of their fields.
 
-/// Octets in hex, and their lines without line feeds.
+/// The fields of the header, with which each PDU begins: the offset, how many octets there are, and the name.
+pub static HEADER: [(u8, u8, &str); 9] = [
+    (0, 1, "rpc_vers"),
+    (1, 1, "rpc_vers_minor"),
+    (2, 1, "ptype"),
+    (3, 1, "pfc_flags"),
+    (4, 1, "drep_order"),
+    (5, 3, "drep_rest"),
+    (8, 2, "frag_length"),
+    (10, 2, "auth_length"),
+    (12, 4, "call_id"),
+];
+
+/// Octets in hex, and their lines behind those of the header without line feeds.
 pub type Example = (&'static str, &'static [&'static str]);
 
 /// Each kind with the lowest octet first and other octets than 0 where they are passed over, each with the highest first, two
@@ -10,15 +23,6 @@ pub static EXAMPLES: [Example; 31] = [
     (
         "0501008310a1a2a32b000000040302010700000001000200105a0e6a523c7e4b9d215e8f7c1a2b30010203",
         &[
-            "0 rpc_vers 05",
-            "1 rpc_vers_minor 01",
-            "2 ptype 00",
-            "3 pfc_flags 83",
-            "4 drep_order 10",
-            "5 drep_rest a1a2a3",
-            "8 frag_length 2b00",
-            "10 auth_length 0000",
-            "12 call_id 04030201",
             "16 alloc_hint 07000000",
             "20 p_cont_id 0100",
             "22 opnum 0200",
@@ -30,15 +34,6 @@ pub static EXAMPLES: [Example; 31] = [
     (
         "0500000310a1a2a31900000002000000010000000000000000",
         &[
-            "0 rpc_vers 05",
-            "1 rpc_vers_minor 00",
-            "2 ptype 00",
-            "3 pfc_flags 03",
-            "4 drep_order 10",
-            "5 drep_rest a1a2a3",
-            "8 frag_length 1900",
-            "10 auth_length 0000",
-            "12 call_id 02000000",
             "16 alloc_hint 01000000",
             "20 p_cont_id 0000",
             "22 opnum 0000",
@@ -49,15 +44,6 @@ pub static EXAMPLES: [Example; 31] = [
     (
         "0500020310a1a2a31b0000000200000003000000010002a1010203",
         &[
-            "0 rpc_vers 05",
-            "1 rpc_vers_minor 00",
-            "2 ptype 02",
-            "3 pfc_flags 03",
-            "4 drep_order 10",
-            "5 drep_rest a1a2a3",
-            "8 frag_length 1b00",
-            "10 auth_length 0000",
-            "12 call_id 02000000",
             "16 alloc_hint 03000000",
             "20 p_cont_id 0100",
             "22 cancel_count 02",
@@ -69,15 +55,6 @@ pub static EXAMPLES: [Example; 31] = [
     (
         "0500032310a1a2a3200000000700000000000000010002a10200011ca1a2a3a4",
         &[
-            "0 rpc_vers 05",
-            "1 rpc_vers_minor 00",
-            "2 ptype 03",
-            "3 pfc_flags 23",
-            "4 drep_order 10",
-            "5 drep_rest a1a2a3",
-            "8 frag_length 2000",
-            "10 auth_length 0000",
-            "12 call_id 07000000",
             "16 alloc_hint 00000000",
             "20 p_cont_id 0100",
             "22 cancel_count 02",
@@ -90,15 +67,6 @@ pub static EXAMPLES: [Example; 31] = [
     (
         "05000b0310a1a2a34800000001000000d016d0160000000001a1a2a3000001a1105a0e6a523c7e4b9d215e8f7c1a2b3001000000045d888aeb1cc9119fe808002b10486002000000",
         &[
-            "0 rpc_vers 05",
-            "1 rpc_vers_minor 00",
-            "2 ptype 0b",
-            "3 pfc_flags 03",
-            "4 drep_order 10",
-            "5 drep_rest a1a2a3",
-            "8 frag_length 4800",
-            "10 auth_length 0000",
-            "12 call_id 01000000",
             "16 max_xmit_frag d016",
             "18 max_recv_frag d016",
             "20 assoc_group_id 00000000",
@@ -117,15 +85,6 @@ pub static EXAMPLES: [Example; 31] = [
     (
         "05000c0310a1a2a33800000001000000d016d016010000000000a1a201a1a2a300000000045d888aeb1cc9119fe808002b10486002000000",
         &[
-            "0 rpc_vers 05",
-            "1 rpc_vers_minor 00",
-            "2 ptype 0c",
-            "3 pfc_flags 03",
-            "4 drep_order 10",
-            "5 drep_rest a1a2a3",
-            "8 frag_length 3800",
-            "10 auth_length 0000",
-            "12 call_id 01000000",
             "16 max_xmit_frag d016",
             "18 max_recv_frag d016",
             "20 assoc_group_id 01000000",
@@ -144,15 +103,6 @@ pub static EXAMPLES: [Example; 31] = [
     (
         "05000d0310a1a2a3170000000100000004000205000501",
         &[
-            "0 rpc_vers 05",
-            "1 rpc_vers_minor 00",
-            "2 ptype 0d",
-            "3 pfc_flags 03",
-            "4 drep_order 10",
-            "5 drep_rest a1a2a3",
-            "8 frag_length 1700",
-            "10 auth_length 0000",
-            "12 call_id 01000000",
             "16 reason 0400",
             "18 n_protocols 02",
             "19 major 05",
@@ -165,15 +115,6 @@ pub static EXAMPLES: [Example; 31] = [
     (
         "05000e0310a1a2a38800000001000000d01698050d0c0b0a02a1a2a3000002a1105a0e6a523c7e4b9d215e8f7c1a2b3001000000045d888aeb1cc9119fe808002b10486002000000045d888aeb1cc9119fe808002b10486001000000010001a1105a0e6a523c7e4b9d215e8f7c1a2b3001000000045d888aeb1cc9119fe808002b10486002000000",
         &[
-            "0 rpc_vers 05",
-            "1 rpc_vers_minor 00",
-            "2 ptype 0e",
-            "3 pfc_flags 03",
-            "4 drep_order 10",
-            "5 drep_rest a1a2a3",
-            "8 frag_length 8800",
-            "10 auth_length 0000",
-            "12 call_id 01000000",
             "16 max_xmit_frag d016",
             "18 max_recv_frag 9805",
             "20 assoc_group_id 0d0c0b0a",
@@ -201,15 +142,6 @@ pub static EXAMPLES: [Example; 31] = [
     (
         "05000f0310a1a2a35400000001000000d016d0160d0c0b0a0300313200a1a2a302a1a2a302000300045d888aeb1cc9119fe808002b1048600200000000000000045d888aeb1cc9119fe808002b10486002000000",
         &[
-            "0 rpc_vers 05",
-            "1 rpc_vers_minor 00",
-            "2 ptype 0f",
-            "3 pfc_flags 03",
-            "4 drep_order 10",
-            "5 drep_rest a1a2a3",
-            "8 frag_length 5400",
-            "10 auth_length 0000",
-            "12 call_id 01000000",
             "16 max_xmit_frag d016",
             "18 max_recv_frag d016",
             "20 assoc_group_id 0d0c0b0a",
@@ -229,63 +161,15 @@ pub static EXAMPLES: [Example; 31] = [
         ],
     ),
     // a shutdown, with octets that are passed over
-    (
-        "0500110310a1a2a31000000000000000",
-        &[
-            "0 rpc_vers 05",
-            "1 rpc_vers_minor 00",
-            "2 ptype 11",
-            "3 pfc_flags 03",
-            "4 drep_order 10",
-            "5 drep_rest a1a2a3",
-            "8 frag_length 1000",
-            "10 auth_length 0000",
-            "12 call_id 00000000",
-        ],
-    ),
+    ("0500110310a1a2a31000000000000000", &[]),
     // a co_cancel, with octets that are passed over
-    (
-        "0500120310a1a2a31000000002000000",
-        &[
-            "0 rpc_vers 05",
-            "1 rpc_vers_minor 00",
-            "2 ptype 12",
-            "3 pfc_flags 03",
-            "4 drep_order 10",
-            "5 drep_rest a1a2a3",
-            "8 frag_length 1000",
-            "10 auth_length 0000",
-            "12 call_id 02000000",
-        ],
-    ),
+    ("0500120310a1a2a31000000002000000", &[]),
     // an orphaned, with octets that are passed over
-    (
-        "0501130310a1a2a31000000002000000",
-        &[
-            "0 rpc_vers 05",
-            "1 rpc_vers_minor 01",
-            "2 ptype 13",
-            "3 pfc_flags 03",
-            "4 drep_order 10",
-            "5 drep_rest a1a2a3",
-            "8 frag_length 1000",
-            "10 auth_length 0000",
-            "12 call_id 02000000",
-        ],
-    ),
+    ("0501130310a1a2a31000000002000000", &[]),
     // a request of an object with the highest octet first
     (
         "0501008300000000002b00000102030400000007000100026a0e5a103c524b7e9d215e8f7c1a2b30010203",
         &[
-            "0 rpc_vers 05",
-            "1 rpc_vers_minor 01",
-            "2 ptype 00",
-            "3 pfc_flags 83",
-            "4 drep_order 00",
-            "5 drep_rest 000000",
-            "8 frag_length 002b",
-            "10 auth_length 0000",
-            "12 call_id 01020304",
             "16 alloc_hint 00000007",
             "20 p_cont_id 0001",
             "22 opnum 0002",
@@ -297,15 +181,6 @@ pub static EXAMPLES: [Example; 31] = [
     (
         "05000003000000000019000000000002000000010000000000",
         &[
-            "0 rpc_vers 05",
-            "1 rpc_vers_minor 00",
-            "2 ptype 00",
-            "3 pfc_flags 03",
-            "4 drep_order 00",
-            "5 drep_rest 000000",
-            "8 frag_length 0019",
-            "10 auth_length 0000",
-            "12 call_id 00000002",
             "16 alloc_hint 00000001",
             "20 p_cont_id 0000",
             "22 opnum 0000",
@@ -316,15 +191,6 @@ pub static EXAMPLES: [Example; 31] = [
     (
         "0500020300000000001b0000000000020000000300010200010203",
         &[
-            "0 rpc_vers 05",
-            "1 rpc_vers_minor 00",
-            "2 ptype 02",
-            "3 pfc_flags 03",
-            "4 drep_order 00",
-            "5 drep_rest 000000",
-            "8 frag_length 001b",
-            "10 auth_length 0000",
-            "12 call_id 00000002",
             "16 alloc_hint 00000003",
             "20 p_cont_id 0001",
             "22 cancel_count 02",
@@ -336,15 +202,6 @@ pub static EXAMPLES: [Example; 31] = [
     (
         "0500032300000000002000000000000700000000000102001c01000200000000",
         &[
-            "0 rpc_vers 05",
-            "1 rpc_vers_minor 00",
-            "2 ptype 03",
-            "3 pfc_flags 23",
-            "4 drep_order 00",
-            "5 drep_rest 000000",
-            "8 frag_length 0020",
-            "10 auth_length 0000",
-            "12 call_id 00000007",
             "16 alloc_hint 00000000",
             "20 p_cont_id 0001",
             "22 cancel_count 02",
@@ -357,15 +214,6 @@ pub static EXAMPLES: [Example; 31] = [
     (
         "05000b0300000000004800000000000116d016d00000000001000000000001006a0e5a103c524b7e9d215e8f7c1a2b30000000018a885d041ceb11c99fe808002b10486000000002",
         &[
-            "0 rpc_vers 05",
-            "1 rpc_vers_minor 00",
-            "2 ptype 0b",
-            "3 pfc_flags 03",
-            "4 drep_order 00",
-            "5 drep_rest 000000",
-            "8 frag_length 0048",
-            "10 auth_length 0000",
-            "12 call_id 00000001",
             "16 max_xmit_frag 16d0",
             "18 max_recv_frag 16d0",
             "20 assoc_group_id 00000000",
@@ -384,15 +232,6 @@ pub static EXAMPLES: [Example; 31] = [
     (
         "05000c0300000000003800000000000116d016d0000000010000000001000000000000008a885d041ceb11c99fe808002b10486000000002",
         &[
-            "0 rpc_vers 05",
-            "1 rpc_vers_minor 00",
-            "2 ptype 0c",
-            "3 pfc_flags 03",
-            "4 drep_order 00",
-            "5 drep_rest 000000",
-            "8 frag_length 0038",
-            "10 auth_length 0000",
-            "12 call_id 00000001",
             "16 max_xmit_frag 16d0",
             "18 max_recv_frag 16d0",
             "20 assoc_group_id 00000001",
@@ -411,15 +250,6 @@ pub static EXAMPLES: [Example; 31] = [
     (
         "05000d0300000000001700000000000100040205000501",
         &[
-            "0 rpc_vers 05",
-            "1 rpc_vers_minor 00",
-            "2 ptype 0d",
-            "3 pfc_flags 03",
-            "4 drep_order 00",
-            "5 drep_rest 000000",
-            "8 frag_length 0017",
-            "10 auth_length 0000",
-            "12 call_id 00000001",
             "16 reason 0004",
             "18 n_protocols 02",
             "19 major 05",
@@ -432,15 +262,6 @@ pub static EXAMPLES: [Example; 31] = [
     (
         "05000e0300000000008800000000000116d005980a0b0c0d02000000000002006a0e5a103c524b7e9d215e8f7c1a2b30000000018a885d041ceb11c99fe808002b104860000000028a885d041ceb11c99fe808002b10486000000001000101006a0e5a103c524b7e9d215e8f7c1a2b30000000018a885d041ceb11c99fe808002b10486000000002",
         &[
-            "0 rpc_vers 05",
-            "1 rpc_vers_minor 00",
-            "2 ptype 0e",
-            "3 pfc_flags 03",
-            "4 drep_order 00",
-            "5 drep_rest 000000",
-            "8 frag_length 0088",
-            "10 auth_length 0000",
-            "12 call_id 00000001",
             "16 max_xmit_frag 16d0",
             "18 max_recv_frag 0598",
             "20 assoc_group_id 0a0b0c0d",
@@ -468,15 +289,6 @@ pub static EXAMPLES: [Example; 31] = [
     (
         "05000f0300000000005400000000000116d016d00a0b0c0d000331320000000002000000000200038a885d041ceb11c99fe808002b10486000000002000000008a885d041ceb11c99fe808002b10486000000002",
         &[
-            "0 rpc_vers 05",
-            "1 rpc_vers_minor 00",
-            "2 ptype 0f",
-            "3 pfc_flags 03",
-            "4 drep_order 00",
-            "5 drep_rest 000000",
-            "8 frag_length 0054",
-            "10 auth_length 0000",
-            "12 call_id 00000001",
             "16 max_xmit_frag 16d0",
             "18 max_recv_frag 16d0",
             "20 assoc_group_id 0a0b0c0d",
@@ -496,63 +308,15 @@ pub static EXAMPLES: [Example; 31] = [
         ],
     ),
     // a shutdown with the highest octet first
-    (
-        "05001103000000000010000000000000",
-        &[
-            "0 rpc_vers 05",
-            "1 rpc_vers_minor 00",
-            "2 ptype 11",
-            "3 pfc_flags 03",
-            "4 drep_order 00",
-            "5 drep_rest 000000",
-            "8 frag_length 0010",
-            "10 auth_length 0000",
-            "12 call_id 00000000",
-        ],
-    ),
+    ("05001103000000000010000000000000", &[]),
     // a co_cancel with the highest octet first
-    (
-        "05001203000000000010000000000002",
-        &[
-            "0 rpc_vers 05",
-            "1 rpc_vers_minor 00",
-            "2 ptype 12",
-            "3 pfc_flags 03",
-            "4 drep_order 00",
-            "5 drep_rest 000000",
-            "8 frag_length 0010",
-            "10 auth_length 0000",
-            "12 call_id 00000002",
-        ],
-    ),
+    ("05001203000000000010000000000002", &[]),
     // an orphaned with the highest octet first
-    (
-        "05011303000000000010000000000002",
-        &[
-            "0 rpc_vers 05",
-            "1 rpc_vers_minor 01",
-            "2 ptype 13",
-            "3 pfc_flags 03",
-            "4 drep_order 00",
-            "5 drep_rest 000000",
-            "8 frag_length 0010",
-            "10 auth_length 0000",
-            "12 call_id 00000002",
-        ],
-    ),
+    ("05011303000000000010000000000002", &[]),
     // a request with an empty stub
     (
         "050000031000000018000000020000000100000000000000",
         &[
-            "0 rpc_vers 05",
-            "1 rpc_vers_minor 00",
-            "2 ptype 00",
-            "3 pfc_flags 03",
-            "4 drep_order 10",
-            "5 drep_rest 000000",
-            "8 frag_length 1800",
-            "10 auth_length 0000",
-            "12 call_id 02000000",
             "16 alloc_hint 01000000",
             "20 p_cont_id 0000",
             "22 opnum 0000",
@@ -563,15 +327,6 @@ pub static EXAMPLES: [Example; 31] = [
     (
         "050002031000000018000000020000000300000001000200",
         &[
-            "0 rpc_vers 05",
-            "1 rpc_vers_minor 00",
-            "2 ptype 02",
-            "3 pfc_flags 03",
-            "4 drep_order 10",
-            "5 drep_rest 000000",
-            "8 frag_length 1800",
-            "10 auth_length 0000",
-            "12 call_id 02000000",
             "16 alloc_hint 03000000",
             "20 p_cont_id 0100",
             "22 cancel_count 02",
@@ -583,15 +338,6 @@ pub static EXAMPLES: [Example; 31] = [
     (
         "0500032310000000230000000700000000000000010002000200011c000000000a0b0c",
         &[
-            "0 rpc_vers 05",
-            "1 rpc_vers_minor 00",
-            "2 ptype 03",
-            "3 pfc_flags 23",
-            "4 drep_order 10",
-            "5 drep_rest 000000",
-            "8 frag_length 2300",
-            "10 auth_length 0000",
-            "12 call_id 07000000",
             "16 alloc_hint 00000000",
             "20 p_cont_id 0100",
             "22 cancel_count 02",
@@ -605,15 +351,6 @@ pub static EXAMPLES: [Example; 31] = [
     (
         "05000b03100000004b00000001000000d016d016000000000100000000000100105a0e6a523c7e4b9d215e8f7c1a2b3001000000045d888aeb1cc9119fe808002b104860020000000a0b0c",
         &[
-            "0 rpc_vers 05",
-            "1 rpc_vers_minor 00",
-            "2 ptype 0b",
-            "3 pfc_flags 03",
-            "4 drep_order 10",
-            "5 drep_rest 000000",
-            "8 frag_length 4b00",
-            "10 auth_length 0000",
-            "12 call_id 01000000",
             "16 max_xmit_frag d016",
             "18 max_recv_frag d016",
             "20 assoc_group_id 00000000",
@@ -633,15 +370,6 @@ pub static EXAMPLES: [Example; 31] = [
     (
         "05000c03100000003b00000001000000d016d01601000000000000000100000000000000045d888aeb1cc9119fe808002b104860020000000a0b0c",
         &[
-            "0 rpc_vers 05",
-            "1 rpc_vers_minor 00",
-            "2 ptype 0c",
-            "3 pfc_flags 03",
-            "4 drep_order 10",
-            "5 drep_rest 000000",
-            "8 frag_length 3b00",
-            "10 auth_length 0000",
-            "12 call_id 01000000",
             "16 max_xmit_frag d016",
             "18 max_recv_frag d016",
             "20 assoc_group_id 01000000",
@@ -661,15 +389,6 @@ pub static EXAMPLES: [Example; 31] = [
     (
         "05000d03100000001a00000001000000040002050005010a0b0c",
         &[
-            "0 rpc_vers 05",
-            "1 rpc_vers_minor 00",
-            "2 ptype 0d",
-            "3 pfc_flags 03",
-            "4 drep_order 10",
-            "5 drep_rest 000000",
-            "8 frag_length 1a00",
-            "10 auth_length 0000",
-            "12 call_id 01000000",
             "16 reason 0400",
             "18 n_protocols 02",
             "19 major 05",
@@ -682,17 +401,6 @@ pub static EXAMPLES: [Example; 31] = [
     // a shutdown with a tail
     (
         "050011031000000013000000000000000a0b0c",
-        &[
-            "0 rpc_vers 05",
-            "1 rpc_vers_minor 00",
-            "2 ptype 11",
-            "3 pfc_flags 03",
-            "4 drep_order 10",
-            "5 drep_rest 000000",
-            "8 frag_length 1300",
-            "10 auth_length 0000",
-            "12 call_id 00000000",
-            "16 tail 0a0b0c",
-        ],
+        &["16 tail 0a0b0c"],
     ),
 ];

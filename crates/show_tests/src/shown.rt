@@ -1,4 +1,4 @@
-use crate::examples::{EXAMPLES, Example};
+use crate::examples::{EXAMPLES, Example, HEADER};
 use dts_base::{Field, MemorySink, MemorySource, Refused, WireCause};
 use std::alloc::Global;
 use std::process::Abort;
@@ -58,6 +58,15 @@ fn push_line(text: &mut Vec<u8>, line: &str) -> Result<(), Fail> {
 fn expect_lines(rt: &impl Abort, alloc: Global, example: &Example) -> Result<(), Fail> {
     let (digits, lines) = *example;
     let mut text = Vec::new(alloc);
+    for (offset, size, name) in HEADER.iter() {
+        let begin = 2 * usize::from(*offset);
+        let end = begin + 2 * usize::from(*size);
+        let octets = digits.get(begin..end).ok_or("short")?;
+        push_line(
+            &mut text,
+            format!(in alloc; "{offset} {name} {octets}")?.as_str(),
+        )?;
+    }
     for line in lines {
         push_line(&mut text, line)?;
     }
