@@ -25,7 +25,7 @@ pub first_parts : (o : Option Wrong) (ws : List (Option Wrong)) → first (o ∷
 first_parts None ws e = (refl, e)
 first_parts (Some w) ws e = cc
 
-map_none : {A B : Type 0} (f : A → B) (o : Option A) → option_map f o ≡ None → o ≡ None
+pub map_none : {A B : Type 0} (f : A → B) (o : Option A) → option_map f o ≡ None → o ≡ None
 map_none f None e = refl
 map_none f (Some x) e = cc
 
@@ -91,7 +91,7 @@ has_node : (ms : Members) → first (map place_wrong (places_with_node ms)) ≡ 
 has_node no_members e = cc
 has_node (member l x ms) e = node_at l x ms (slice_cmp nat_cmp l node) refl e (has_node ms)
 
-some_is : {A : Type 0} (o : Option A) → IsSome o → (x : A) × (o ≡ Some x)
+pub some_is : {A : Type 0} (o : Option A) → IsSome o → (x : A) × (o ≡ Some x)
 some_is None e = cc
 some_is (Some x) e = (x, refl)
 
@@ -135,7 +135,7 @@ array_tables : (d : Data) (o : Option Items) → option_map_or (λ ds. list_all 
 array_tables d None e = tt
 array_tables d (Some ds) e = tables_at (items_of ds) e
 
-servers_at : (doc : Members) (o : Option Data) → get_member (codes "server") doc ≡ o → top_wrong doc ≡ None → AllByRecursion (λ e. IsSome (as_table e)) (option_map_or items_of (option_and_then as_array o) [])
+pub servers_at : (doc : Members) (o : Option Data) → get_member (codes "server") doc ≡ o → top_wrong doc ≡ None → AllByRecursion (λ e. IsSome (as_table e)) (option_map_or items_of (option_and_then as_array o) [])
 servers_at doc None g e = tt
 servers_at doc (Some d) g e = array_tables d (as_array d) (kind_right (is_tables d) (top_right (codes "server") d doc e g))
 
@@ -151,7 +151,7 @@ each_right earlier (d ∷ ds) e all =
     let q = first_parts (each_wrong (earlier ++ d ∷ []) ds) [] p.1 in
     (server_right_at _ _ (as_table d) p.0 all.0, each_right (earlier ++ d ∷ []) ds q.0 all.1)
 
-few_at : (b : Bool) (w : Wrong) → (if b then Some w else None) ≡ None → b ≡ false
+pub few_at : (b : Bool) (w : Wrong) → (if b then Some w else None) ≡ None → b ≡ false
 few_at true w e = cc
 few_at false w e = refl
 

@@ -7,6 +7,7 @@ use Rattle.std.proofs.lemmas.Bool.{and_parts, lt-ltb, ltb-true, leb-true}
 use Rattle.std.proofs.lemmas.List.Sums.{AllPass-from_list_all}
 use Rattle.std.proofs.lemmas.Bool.Decides.{nat_tests}
 use Rattle.std.proofs.lemmas.Fmt.{decimal_is_IsNumeral}
+use Rattle.std.proofs.lemmas.Option.{same_Some}
 use Rattle.std.proofs.lemmas.Slice.Eq.{bytes_eq-Decides}
 use Rattle.std.proofs.Math.Seq.{drop-append-add}
 use Rattle.dts_base.specs.declared.address.Address.{Address}
@@ -76,6 +77,17 @@ pub too_great_is : (text : List ℕ) (a : Address) (greatest : ℕ) → Spells t
 too_great_is text a greatest s h =
     left_out a (numbers_of text) greatest text (numbers_are text a s) (third_false (list_all (λ octet. nat_lt octet 256) a.ip) (nat_lt 0 a.port) (nat_le a.port greatest) (bytes_eq (address_text a) text) (grind (arith, nat_tests, h)))
 
+within_at : (n a : Address) (greatest : ℕ) (text : List ℕ) (b : Bool) → passes n greatest text ≡ b → (if b then Some n else None) ≡ Some a → a.port ≤ greatest
+within_at n a greatest text false p e = cc
+within_at n a greatest text true p e =
+    let (front, whole) = and_parts ((list_all (λ octet. nat_lt octet 256) n.ip && nat_lt 0 n.port) && nat_le n.port greatest) (bytes_eq (address_text n) text) p in
+    let (ranges, most) = and_parts (list_all (λ octet. nat_lt octet 256) n.ip && nat_lt 0 n.port) (nat_le n.port greatest) front in
+    rw (← same_Some n a e) (leb-true n.port greatest most)
+
+-- the port of an address is not too great
+pub port_within : (text : List ℕ) (greatest : ℕ) (a : Address) → address_up_to greatest text ≡ Some a → a.port ≤ greatest
+port_within text greatest a e = within_at (numbers_of text) a greatest text (passes (numbers_of text) greatest text) refl e
+
 unspelled_at : (text : List ℕ) (greatest : ℕ) (a : Address) → greatest < 65536 → length a.ip ≡ 4 → ((b : Address) → Spells text b → ⊥) → (b : Bool) → passes a greatest text ≡ b → None ≡ (if b then Some a else None)
 unspelled_at text greatest a fits four none false e = refl
 unspelled_at text greatest a fits four none true e =
@@ -90,7 +102,7 @@ pub unspelled_is : (text : List ℕ) (greatest : ℕ) → greatest < 65536 → (
 unspelled_is text greatest fits none = unspelled_at text greatest (numbers_of text) fits refl none (passes (numbers_of text) greatest text) refl
 
 -- where a node listens by default
-abbrev default_listen : Address
+abbrev pub default_listen : Address
 default_listen = record { ip = DEFAULT_LISTEN_IP; port = DEFAULT_LISTEN_PORT }
 
 default_spelled : Spells (address_text default_listen) default_listen

@@ -4,5 +4,5 @@ pub mod Wrong
 pub mod RosterData
 pub mod Rosters
 pub mod Seen
-pub mod Giving
 pub mod Rates
+pub mod Limits

@@ -32,9 +32,8 @@ string_at node name = option_and_then as_str (value_at node name)
 abbrev pub IsNumberAt : Members → List ℕ → ℕ → Type 0
 IsNumberAt node name n = option_and_then as_integer (value_at node name) ≡ Some (pos n)
 
--- each setting is what the table gives
-pub record GivesSettings (node : Members) (s : Settings) : Type 0 where
-  pub name : string_at node (codes "name") ≡ Some s.name
+-- each setting but the name is what the table gives
+pub record GivesOthers (node : Members) (s : Settings) : Type 0 where
   pub role : option_and_then role_of (string_at node (codes "role")) ≡ Some s.role
   pub courier : option_and_then as_bool (value_at node (codes "courier")) ≡ Some s.courier
   pub listen : option_and_then (address_up_to GREATEST_LISTEN_PORT) (string_at node (codes "listen")) ≡ Some s.listen
@@ -49,6 +48,11 @@ pub record GivesSettings (node : Members) (s : Settings) : Type 0 where
   pub lease : IsNumberAt node (codes "lease") s.lease
   pub slew_ppm : IsNumberAt node (codes "slew_ppm") s.slew_ppm
   pub tolerance : IsNumberAt node (codes "tolerance") s.tolerance
+
+-- each setting is what the table gives
+pub record GivesSettings (node : Members) (s : Settings) : Type 0 where
+  pub name : string_at node (codes "name") ≡ Some s.name
+  pub others : GivesOthers node s
 
 -- the server is what its table gives
 pub record GivesEntry (server : Data) (e : Entry) : Type 0 where

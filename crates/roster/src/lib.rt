@@ -9,6 +9,7 @@ mod document;
 mod entry;
 mod first_wrong;
 mod keys;
+mod laws;
 mod limits;
 mod path;
 mod reading;
@@ -18,6 +19,10 @@ mod values;
 
 pub use cause::{RosterCause, RosterFault};
 pub use entry::{Entry, ServerKind};
+pub use laws::{
+    a_name_is_all_that_a_file_needs, files_are_not_refused_for_the_role,
+    octets_are_one_roster_or_refused_once, rosters_keep_the_limits, whole_file_is_tested_first,
+};
 pub use limits::{
     DEFAULT_DRIFT_PPM, DEFAULT_EPOCH, DEFAULT_HOLD, DEFAULT_LEASE, DEFAULT_LISTEN_IP,
     DEFAULT_LISTEN_PORT, DEFAULT_MAX_INACCURACY, DEFAULT_PERIOD, DEFAULT_REQUIRED,

@@ -8,9 +8,8 @@ ghost use Rattle.dts_base.specs.Addresses.{address_text};
 ghost use Rattle.roster.specs.declared.keys.Right.TheVariants as right;
 ghost use Rattle.roster.specs.Keys.{asked_of, node_keys, server_keys};
 ghost use Rattle.roster.specs.Values.{role_of, address_up_to};
-ghost use Rattle.roster.specs.Rosters.{given, GivesEntry};
+ghost use Rattle.roster.specs.Rosters.{given, GivesEntry, GivesOthers};
 ghost use Rattle.roster.specs.Seen.{IsRight, HoldsRight, AreRight};
-ghost use Rattle.roster.specs.Giving.{GivesOthers};
 
 use crate::addresses::address;
 use crate::document::{member, text_at};

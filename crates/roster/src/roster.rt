@@ -45,6 +45,7 @@ impl Roster {
     ghost use Rattle.roster.specs.declared.entry.ServerKind.TheVariants as kind;
     ghost use Rattle.roster.specs.Rosters.{IsRoster, Refuses, GivesSettings, alone, others};
     ghost use Rattle.roster.specs.Rates.{rates_of};
+    ghost use Rattle.slew_clock.specs.UsualRates.{usual_rates};
 
     /// The roster that the octets of a file are, or their first wrong key: the path of it, as `node.period` or
     /// `server.0.name`, and the reason. The file as a whole is tested first, then the keys of the top in ascending order,
@@ -74,6 +75,7 @@ impl Roster {
     pub fn empty(alloc: Global) -> Result<Roster, NoMemory>
         ensures settings { IfOk result (λ r. GivesSettings alone r.settings) }
         ensures servers { IfOk result (λ r. r.entries ≡ []) }
+        ensures rates { IfOk result (λ r. rates_of r.settings ≡ usual_rates) }
     {
         Ok(Roster {
             settings: settings(Text::from_slice(alloc, b"node")?, &Table::new(alloc)),

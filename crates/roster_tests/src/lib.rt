@@ -4,6 +4,18 @@
 #[cfg(test)]
 mod examples;
 #[cfg(test)]
+mod forms;
+#[cfg(test)]
+mod kinds;
+#[cfg(test)]
+mod order;
+#[cfg(test)]
+mod ranges;
+#[cfg(test)]
 mod rosters;
 #[cfg(test)]
 mod rounds;
+#[cfg(test)]
+mod settings;
+#[cfg(test)]
+mod verdicts;

@@ -1,180 +1,159 @@
+use crate::verdicts::{expect, expect_of_line};
 use roster::*;
 use std::alloc::Global;
 use std::process::Abort;
 use std::test::Fail;
 
-// What refuses a text, as `PATH: CAUSE`, or `accepted`.
-fn verdict(alloc: Global, text: &[u8]) -> Result<String, Fail> {
-    match Roster::read(alloc, text) {
-        Ok(_) => Ok(String::from_str(alloc, "accepted")?),
-        Err(RosterFault::Wrong { path, cause }) => refusal(alloc, path.as_slice(), cause),
-        Err(RosterFault::NoMemory) => Ok(String::from_str(alloc, "no memory")?),
-    }
-}
-
-fn refusal(alloc: Global, path: &[u8], cause: RosterCause) -> Result<String, Fail> {
-    let path = std::str::from_utf8(path).unwrap_or("?");
-    Ok(format!(in alloc; "{path}: {cause:?}")?)
-}
-
-fn expect(rt: &impl Abort, alloc: Global, text: &[u8], wanted: &str) -> Result<(), Fail> {
-    let found = verdict(alloc, text)?;
-    assert_eq!(rt; found.as_str(), wanted);
-    Ok(())
-}
-
-// A node's line behind its name.
-fn expect_of_line(rt: &impl Abort, alloc: Global, line: &str, wanted: &str) -> Result<(), Fail> {
-    let text = format!(in alloc; "[node]\nname = \"a\"\n{line}\n")?;
-    expect(rt, alloc, text.as_bytes(), wanted)
-}
+// A line of the node behind its name, and what is wrong.
+const LINES: [(&str, &str); 74] = [
+    ("role = 1", "node.role: Kind"),
+    ("role = \"boss\"", "node.role: Range"),
+    ("role = \"server\"", "accepted"),
+    ("courier = \"yes\"", "node.courier: Kind"),
+    ("courier = true", "accepted"),
+    ("listen = 7000", "node.listen: Kind"),
+    ("listen = \"localhost:7000\"", "node.listen: Range"),
+    ("listen = \"1.2.3.4:0\"", "node.listen: Range"),
+    ("listen = \"1.2.3.4:1\"", "accepted"),
+    ("listen = \"1.2.3.4:65532\"", "accepted"),
+    ("listen = \"1.2.3.4:65533\"", "node.listen: Range"),
+    ("epoch = 1.0", "node.epoch: Kind"),
+    ("epoch = -1", "node.epoch: Range"),
+    ("epoch = 0", "accepted"),
+    ("epoch = 255", "accepted"),
+    ("epoch = 256", "node.epoch: Range"),
+    ("required = true", "node.required: Kind"),
+    ("required = 0", "node.required: Range"),
+    ("required = 1", "accepted"),
+    ("required = 32", "accepted"),
+    ("required = 33", "node.required: Range"),
+    ("period = \"1\"", "node.period: Kind"),
+    ("period = 9999999", "node.period: Range"),
+    ("period = 10000000", "accepted"),
+    ("period = 10000000000000", "accepted"),
+    ("period = 10000000000001", "node.period: Range"),
+    ("hold = []", "node.hold: Kind"),
+    ("hold = 9999999", "node.hold: Range"),
+    ("hold = 10000000", "accepted"),
+    ("hold = 10000000000000", "accepted"),
+    ("hold = 10000000000001", "node.hold: Range"),
+    ("timeout = {}", "node.timeout: Kind"),
+    ("timeout = 9999", "node.timeout: Range"),
+    ("timeout = 10000", "accepted"),
+    ("timeout = 10000000000", "accepted"),
+    ("timeout = 10000000001", "node.timeout: Range"),
+    ("max_inaccuracy = 1979-05-27", "node.max_inaccuracy: Kind"),
+    ("max_inaccuracy = 0", "node.max_inaccuracy: Range"),
+    ("max_inaccuracy = 1", "accepted"),
+    ("max_inaccuracy = 281474976710654", "accepted"),
+    (
+        "max_inaccuracy = 281474976710655",
+        "node.max_inaccuracy: Range",
+    ),
+    ("drift_ppm = \"\"", "node.drift_ppm: Kind"),
+    ("drift_ppm = -1", "node.drift_ppm: Range"),
+    ("drift_ppm = 0", "accepted"),
+    ("drift_ppm = 10000", "accepted"),
+    ("drift_ppm = 10001", "node.drift_ppm: Range"),
+    ("resolution = \"\"", "node.resolution: Kind"),
+    ("resolution = -1", "node.resolution: Range"),
+    ("resolution = 0", "accepted"),
+    ("resolution = 10000000", "accepted"),
+    ("resolution = 10000001", "node.resolution: Range"),
+    ("lease = \"\"", "node.lease: Kind"),
+    ("lease = 999999", "node.lease: Range"),
+    ("lease = 1000000", "accepted"),
+    ("lease = 36000000000", "accepted"),
+    ("lease = 36000000001", "node.lease: Range"),
+    ("slew_ppm = \"\"", "node.slew_ppm: Kind"),
+    ("slew_ppm = 0", "node.slew_ppm: Range"),
+    ("slew_ppm = 1", "accepted"),
+    ("slew_ppm = 100000", "accepted"),
+    ("slew_ppm = 100001", "node.slew_ppm: Range"),
+    ("tolerance = \"\"", "node.tolerance: Kind"),
+    ("tolerance = 0", "node.tolerance: Range"),
+    ("tolerance = 1", "accepted"),
+    ("tolerance = 1000000000000000", "accepted"),
+    ("tolerance = 1000000000000001", "node.tolerance: Range"),
+    ("color = 1", "node.color: Unknown"),
+    ("color = 1\nrole = 1", "node.role: Kind"),
+    ("hold = 0\nperiod = 0", "node.period: Range"),
+    ("epoch = 9223372036854775808", ": Document"),
+    ("epoch = 0x10", "accepted"),
+    ("\"epoch\" = 256", "node.epoch: Range"),
+    ("\"a.b\" = 1", "node.a.b: Unknown"),
+    ("name = \"b\"", ": Document"),
+];
 
 #[test]
 fn each_key_of_the_node_is_tested(rt: HostRuntime) -> Result<(), Fail> {
-    let rows = [
-        ("role = 1", "node.role: Kind"),
-        ("role = \"boss\"", "node.role: Range"),
-        ("role = \"server\"", "accepted"),
-        ("courier = \"yes\"", "node.courier: Kind"),
-        ("courier = true", "accepted"),
-        ("listen = 7000", "node.listen: Kind"),
-        ("listen = \"localhost:7000\"", "node.listen: Range"),
-        ("listen = \"1.2.3.4:0\"", "node.listen: Range"),
-        ("listen = \"1.2.3.4:1\"", "accepted"),
-        ("listen = \"1.2.3.4:65532\"", "accepted"),
-        ("listen = \"1.2.3.4:65533\"", "node.listen: Range"),
-        ("epoch = 1.0", "node.epoch: Kind"),
-        ("epoch = -1", "node.epoch: Range"),
-        ("epoch = 0", "accepted"),
-        ("epoch = 255", "accepted"),
-        ("epoch = 256", "node.epoch: Range"),
-        ("required = true", "node.required: Kind"),
-        ("required = 0", "node.required: Range"),
-        ("required = 1", "accepted"),
-        ("required = 32", "accepted"),
-        ("required = 33", "node.required: Range"),
-        ("period = \"1\"", "node.period: Kind"),
-        ("period = 9999999", "node.period: Range"),
-        ("period = 10000000", "accepted"),
-        ("period = 10000000000000", "accepted"),
-        ("period = 10000000000001", "node.period: Range"),
-        ("hold = []", "node.hold: Kind"),
-        ("hold = 9999999", "node.hold: Range"),
-        ("hold = 10000000", "accepted"),
-        ("hold = 10000000000000", "accepted"),
-        ("hold = 10000000000001", "node.hold: Range"),
-        ("timeout = {}", "node.timeout: Kind"),
-        ("timeout = 9999", "node.timeout: Range"),
-        ("timeout = 10000", "accepted"),
-        ("timeout = 10000000000", "accepted"),
-        ("timeout = 10000000001", "node.timeout: Range"),
-        ("max_inaccuracy = 1979-05-27", "node.max_inaccuracy: Kind"),
-        ("max_inaccuracy = 0", "node.max_inaccuracy: Range"),
-        ("max_inaccuracy = 1", "accepted"),
-        ("max_inaccuracy = 281474976710654", "accepted"),
-        (
-            "max_inaccuracy = 281474976710655",
-            "node.max_inaccuracy: Range",
-        ),
-        ("drift_ppm = \"\"", "node.drift_ppm: Kind"),
-        ("drift_ppm = -1", "node.drift_ppm: Range"),
-        ("drift_ppm = 0", "accepted"),
-        ("drift_ppm = 10000", "accepted"),
-        ("drift_ppm = 10001", "node.drift_ppm: Range"),
-        ("resolution = \"\"", "node.resolution: Kind"),
-        ("resolution = -1", "node.resolution: Range"),
-        ("resolution = 0", "accepted"),
-        ("resolution = 10000000", "accepted"),
-        ("resolution = 10000001", "node.resolution: Range"),
-        ("lease = \"\"", "node.lease: Kind"),
-        ("lease = 999999", "node.lease: Range"),
-        ("lease = 1000000", "accepted"),
-        ("lease = 36000000000", "accepted"),
-        ("lease = 36000000001", "node.lease: Range"),
-        ("slew_ppm = \"\"", "node.slew_ppm: Kind"),
-        ("slew_ppm = 0", "node.slew_ppm: Range"),
-        ("slew_ppm = 1", "accepted"),
-        ("slew_ppm = 100000", "accepted"),
-        ("slew_ppm = 100001", "node.slew_ppm: Range"),
-        ("tolerance = \"\"", "node.tolerance: Kind"),
-        ("tolerance = 0", "node.tolerance: Range"),
-        ("tolerance = 1", "accepted"),
-        ("tolerance = 1000000000000000", "accepted"),
-        ("tolerance = 1000000000000001", "node.tolerance: Range"),
-        ("color = 1", "node.color: Unknown"),
-        ("color = 1\nrole = 1", "node.role: Kind"),
-        ("hold = 0\nperiod = 0", "node.period: Range"),
-        ("epoch = 9223372036854775808", ": Document"),
-        ("epoch = 0x10", "accepted"),
-        ("\"epoch\" = 256", "node.epoch: Range"),
-        ("\"a.b\" = 1", "node.a.b: Unknown"),
-        ("name = \"b\"", ": Document"),
-    ];
-    for (line, wanted) in rows {
+    for (line, wanted) in LINES {
         expect_of_line(&rt, rt.alloc(), line, wanted)?;
     }
     Ok(())
 }
 
+// A text, and what is wrong.
+const TEXTS: [(&str, &str); 27] = [
+    ("", "node: Missing"),
+    ("a = 1\n", "a: Unknown"),
+    ("z = 1\n", "node: Missing"),
+    ("node = 1\n", "node: Kind"),
+    ("node.name = \"a\"\nz = 1\n", "z: Unknown"),
+    ("node.name = \"a\"\n", "accepted"),
+    ("node = { name = \"a\" }\n", "accepted"),
+    ("\"node\".'name' = \"a\"\r\n", "accepted"),
+    ("[node]\r\nname = \"a\"\r\n", "accepted"),
+    ("[node]\n", "node.name: Missing"),
+    ("[node]\nname = 1\n", "node.name: Kind"),
+    ("[node]\nname = \"\"\n", "node.name: Range"),
+    ("[node]\nname = \"A\"\n", "node.name: Range"),
+    (
+        "[node]\nname = \"abcdefghijklmnopqrstuvwxyz-01234\"\n",
+        "accepted",
+    ),
+    (
+        "[node]\nname = \"abcdefghijklmnopqrstuvwxyz-012345\"\n",
+        "node.name: Range",
+    ),
+    ("server = []\n[node]\nname = \"a\"\n", "accepted"),
+    ("server = 1\n[node]\nname = \"a\"\n", "server: Kind"),
+    ("server = [1]\n[node]\nname = \"a\"\n", "server: Kind"),
+    ("[server]\n[node]\nname = \"a\"\n", "server: Kind"),
+    (
+        "[node]\nname = \"a\"\n[[server]]\n",
+        "server.0.name: Missing",
+    ),
+    (
+        "[node]\nname = \"a\"\n[[server]]\nname = \"s\"\n",
+        "server.0.kind: Missing",
+    ),
+    (
+        "[node]\nname = \"a\"\n[[server]]\nname = \"s\"\nkind = \"far\"\n",
+        "server.0.kind: Range",
+    ),
+    (
+        "[node]\nname = \"a\"\n[[server]]\nname = \"s\"\nkind = \"local\"\n",
+        "server.0.address: Missing",
+    ),
+    (
+        "[node]\nname = \"a\"\n[[server]]\nname = \"s\"\nkind = \"local\"\naddress = \"1.2.3.4:65535\"\ncolor = 1\n",
+        "server.0.color: Unknown",
+    ),
+    (
+        "[node]\nname = \"a\"\n[[server]]\nname = \"s\"\nkind = \"local\"\naddress = \"1.2.3.4:65536\"\n",
+        "server.0.address: Range",
+    ),
+    (
+        "[node]\nname = \"a\"\n[[server]]\nname = \"s\"\nkind = \"local\"\naddress = \"1.2.3.4:5\"\n[[server]]\nname = \"s\"\nkind = \"ntp\"\naddress = \"1.2.3.4:5\"\n",
+        "server.1.name: Duplicate",
+    ),
+    ("no toml", ": Document"),
+];
+
 #[test]
 fn the_top_and_the_servers_are_tested_in_order(rt: HostRuntime) -> Result<(), Fail> {
-    let rows = [
-        ("", "node: Missing"),
-        ("a = 1\n", "a: Unknown"),
-        ("z = 1\n", "node: Missing"),
-        ("node = 1\n", "node: Kind"),
-        ("node.name = \"a\"\nz = 1\n", "z: Unknown"),
-        ("node.name = \"a\"\n", "accepted"),
-        ("node = { name = \"a\" }\n", "accepted"),
-        ("\"node\".'name' = \"a\"\r\n", "accepted"),
-        ("[node]\r\nname = \"a\"\r\n", "accepted"),
-        ("[node]\n", "node.name: Missing"),
-        ("[node]\nname = 1\n", "node.name: Kind"),
-        ("[node]\nname = \"\"\n", "node.name: Range"),
-        ("[node]\nname = \"A\"\n", "node.name: Range"),
-        (
-            "[node]\nname = \"abcdefghijklmnopqrstuvwxyz-01234\"\n",
-            "accepted",
-        ),
-        (
-            "[node]\nname = \"abcdefghijklmnopqrstuvwxyz-012345\"\n",
-            "node.name: Range",
-        ),
-        ("server = []\n[node]\nname = \"a\"\n", "accepted"),
-        ("server = 1\n[node]\nname = \"a\"\n", "server: Kind"),
-        ("server = [1]\n[node]\nname = \"a\"\n", "server: Kind"),
-        ("[server]\n[node]\nname = \"a\"\n", "server: Kind"),
-        (
-            "[node]\nname = \"a\"\n[[server]]\n",
-            "server.0.name: Missing",
-        ),
-        (
-            "[node]\nname = \"a\"\n[[server]]\nname = \"s\"\n",
-            "server.0.kind: Missing",
-        ),
-        (
-            "[node]\nname = \"a\"\n[[server]]\nname = \"s\"\nkind = \"far\"\n",
-            "server.0.kind: Range",
-        ),
-        (
-            "[node]\nname = \"a\"\n[[server]]\nname = \"s\"\nkind = \"local\"\n",
-            "server.0.address: Missing",
-        ),
-        (
-            "[node]\nname = \"a\"\n[[server]]\nname = \"s\"\nkind = \"local\"\naddress = \"1.2.3.4:65535\"\ncolor = 1\n",
-            "server.0.color: Unknown",
-        ),
-        (
-            "[node]\nname = \"a\"\n[[server]]\nname = \"s\"\nkind = \"local\"\naddress = \"1.2.3.4:65536\"\n",
-            "server.0.address: Range",
-        ),
-        (
-            "[node]\nname = \"a\"\n[[server]]\nname = \"s\"\nkind = \"local\"\naddress = \"1.2.3.4:5\"\n[[server]]\nname = \"s\"\nkind = \"ntp\"\naddress = \"1.2.3.4:5\"\n",
-            "server.1.name: Duplicate",
-        ),
-        ("no toml", ": Document"),
-    ];
-    for (text, wanted) in rows {
+    for (text, wanted) in TEXTS {
         expect(&rt, rt.alloc(), text.as_bytes(), wanted)?;
     }
     expect(&rt, rt.alloc(), &[0xff], ": Document")
