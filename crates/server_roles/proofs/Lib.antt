@@ -1,1 +1,9 @@
+pub mod Adding
+pub mod Answered
+pub mod Servers
+pub mod Brought
+pub mod Named
+pub mod Positions
+pub mod Printed
+pub mod Rows
 pub mod Turns

@@ -1,2 +1,4 @@
-pub mod Sources
 pub mod Own
+pub mod Sources
+pub mod Answering
+pub mod Laws
