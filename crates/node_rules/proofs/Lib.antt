@@ -1,0 +1,11 @@
+pub mod Alone
+pub mod Stamps
+pub mod Serving
+pub mod Refusing
+pub mod Nodes
+pub mod ClerkRows
+pub mod RoundRows
+pub mod TakingRows
+pub mod NtpRows
+pub mod ServerRows
+pub mod ServingRows

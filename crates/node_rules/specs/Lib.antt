@@ -1,0 +1,12 @@
+pub mod History
+pub mod Sessions
+pub mod Rounds
+pub mod Providers
+pub mod Connections
+pub mod Using
+pub mod Asking
+pub mod Ending
+pub mod Taking
+pub mod Serving
+pub mod Rules
+pub mod Laws
