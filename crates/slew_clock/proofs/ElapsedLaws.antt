@@ -1,8 +1,8 @@
 -- Laws of elapsed time.
-use Rattle.std.proofs.Common.{◌≡◌, ℕ, ◌+◌, ◌*◌, ◌/◌, ◌%◌, ◌≤◌, min, pos, ap, arith}
-use Rattle.std.specs.Int.{abs_diff}
+use Rattle.std.proofs.Common.{◌≡◌, ℕ, ◌+◌, ◌*◌, ◌/◌, ◌%◌, ◌≤◌, min, pos, sym, ap, ◌∙◌, arith}
+use Rattle.std.specs.Int.{abs_diff, div_ceil}
 use Rattle.std.proofs.lemmas.Int.{ints}
-use Rattle.std.proofs.Math.Nat.{mul-le-mul_left, mul-le-mul_right, zero-mul}
+use Rattle.std.proofs.Math.Nat.{mul-le-mul_left, mul-le-mul_right, zero-mul, add-mul, div-add-mod'}
 use Rattle.slew_clock.specs.declared.rates.Rates.{Rates}
 use Rattle.slew_clock.specs.Elapsed.{drift_of, most, least, MayElapse}
 
@@ -41,3 +41,15 @@ may_elapse r x t h = (omega (arith, ints), omega (arith, ints))
 -- and what differs by a unit more may not
 pub may_not_elapse : (r : Rates) (x t : ℕ) → x * r.drift_ppm + (r.resolution + 1) * 1000000 ≤ abs_diff t x * 1000000 → MayElapse r x (pos t) → ⊥
 may_not_elapse r x t h may = omega (arith, ints, may)
+
+-- ---- the drift over x units, by the whole millions of them and the rest
+ceil_apart : (a b : ℕ) → div_ceil (a + b * 1000000) 1000000 ≡ b + div_ceil a 1000000
+ceil_apart a b = omega arith
+
+parts_apart : (x p : ℕ) → x * p ≡ x % 1000000 * p + x / 1000000 * p * 1000000
+parts_apart x p =
+    let parts : x / 1000000 * 1000000 + x % 1000000 ≡ x = div-add-mod' x 1000000 in
+    ap (λ v. v * p) (sym parts) ∙ add-mul (x / 1000000 * 1000000) (x % 1000000) p ∙ omega arith
+
+pub drift_apart : (x p : ℕ) → div_ceil (x * p) 1000000 ≡ x / 1000000 * p + div_ceil (x % 1000000 * p) 1000000
+drift_apart x p = ap (λ v. div_ceil v 1000000) (parts_apart x p) ∙ ceil_apart (x % 1000000 * p) (x / 1000000 * p)

@@ -1,6 +1,6 @@
 -- Laws of the line: where it stands, and that it never falls.
-use Rattle.std.proofs.Common.{◌≡◌, ℕ, ◌+◌, ◌-◌, ◌*◌, ◌/◌, ◌^◌, ◌<◌, ◌≤◌, min, ℤ, pos, negsuc, ◌≤ℤ◌, refl, ap, ◌∙◌, inl, inr, arith, nat_le, if◌then◌else◌, le-ltb, le-leb}
-use Rattle.std.proofs.Math.Nat.{div-le_of_le-mul, mul-le-mul_left, mul-le-mul_right, div-mul-le_self, le_trans, zero-div, mul-zero}
+use Rattle.std.proofs.Common.{◌≡◌, ℕ, ◌+◌, ◌-◌, ◌*◌, ◌/◌, ◌^◌, ◌<◌, ◌≤◌, min, ℤ, pos, negsuc, ◌+ℤ◌, ◌≤ℤ◌, refl, ap, ◌∙◌, inl, inr, arith, nat_le, if◌then◌else◌, le-ltb, le-leb}
+use Rattle.std.proofs.Math.Nat.{mul-div_cancel, div-le_of_le-mul, mul-le-mul_left, mul-le-mul_right, div-mul-le_self, le_trans, zero-div, mul-zero}
 use Rattle.std.proofs.lemmas.Int.{ints}
 use Rattle.std.proofs.lemmas.Nat.{le-div}
 use Rattle.std.proofs.lemmas.Bool.{cases_lt, lt-leb}
@@ -126,3 +126,24 @@ line_to r rec o s begun = elim (cases_lt o rec.b.from) [
       let meets = parts_meet r rec s in
       omega (arith, ints, met, on, s.value_to))
 ]
+
+-- the pace of a slew: the lease and the slew, over which the clock goes in a lease
+pub pace_is : (r : Rates) (x : ℤ) → IsSlew r x → (y : ℕ) × (y ≤ 2 * r.lease) × (x +ℤ pos r.lease ≡ pos y)
+pace_is r (pos a) s =
+    let small : a ≤ r.lease = omega (arith, ints, slew_within r, s.1) in
+    (a + r.lease, omega arith, refl)
+pace_is r (negsuc a) s =
+    let small : a + 1 ≤ r.lease = omega (arith, ints, slew_within r, s.0) in
+    (r.lease - (a + 1), omega arith, omega (arith, ints))
+
+-- the advance is that at the pace
+pub advance_at_pace : (r : Rates) (x : ℤ) (e y : ℕ) → x +ℤ pos r.lease ≡ pos y → advance r x e ≡ pos (y * e / r.lease)
+advance_at_pace r x e y is = slewed x y e r.lease (omega (arith, r.lease_from)) is
+
+-- over a whole lease the clock goes on by it and by the slew
+pub advance_whole : (r : Rates) (x : ℤ) → IsSlew r x → advance r x r.lease ≡ pos r.lease +ℤ x
+advance_whole r x s =
+    let pace = pace_is r x s in
+    let whole : pace.0 * r.lease / r.lease ≡ pace.0 = mul-div_cancel pace.0 (omega (arith, r.lease_from)) in
+    let there = advance_at_pace r x r.lease pace.0 pace.2 in
+    omega (arith, ints, there, whole, pace.2)

@@ -1,10 +1,12 @@
 ghost use Rattle.std.specs.Prelude.{◌≡◌, ◌^◌, ◌+◌, ◌*◌, ◌<◌, ◌≤◌, ◌↔◌, ℤ, pos, ◌+ℤ◌, ◌≤ℤ◌, IfSome, IfOk, IfErr, IsErr, IsSome};
 ghost use Rattle.slew_clock.specs.declared.rates.Rates.{Rates};
+ghost use Rattle.slew_clock.specs.declared.rates.TheConstants.{USUAL_LEASE};
 ghost use Rattle.slew_clock.specs.Record.{IsSlew, IsSound};
 ghost use Rattle.slew_clock.specs.Started.{started, StartsWithin};
-ghost use Rattle.slew_clock.specs.Line.{advance, line};
+ghost use Rattle.slew_clock.specs.Line.{advance, first_part, line};
 ghost use Rattle.slew_clock.specs.Reading.{interval_of, inaccuracy_of, or_zero, reach, specified, IsReading};
 
+use crate::rates::USUAL_LEASE;
 use crate::{
     Anchor, ClockRecord, GREATEST_INACCURACY, GREATEST_LEASE, GREATEST_OSC, GREATEST_TIME, PartA,
     PartB, Rates, Reading, Regressed,
@@ -41,34 +43,72 @@ pub fn start(osc: u64, value: i64, first: Option<Interval>) -> ClockRecord
 }
 
 // How far the clock goes, at a slew of x over a lease, where the oscillator goes on by so many units.
+#[inline]
 fn advance_by(r: &Rates, x: i64, elapsed: u64) -> i128
-    requires { IsSlew r.now x }
+    requires slew { IsSlew r.now x }
+    requires elapsed { elapsed ≤ r.now.lease }
     ensures advance { result ≡ advance r.now x elapsed }
     ensures from { pos 0 ≤ℤ result }
     ensures to { result ≤ℤ pos (2 * elapsed) }
+{
+    if r.lease == USUAL_LEASE {
+        i128::from(usual_advance(r, x, elapsed))
+    } else {
+        wide_advance(r, x, elapsed)
+    }
+}
+
+// The same at the usual lease: in 64 bits, and over a divisor that is known, which takes less time.
+#[inline]
+fn usual_advance(r: &Rates, x: i64, elapsed: u64) -> u64
+    requires slew { IsSlew r.now x }
+    requires elapsed { elapsed ≤ r.now.lease }
+    requires lease { r.now.lease ≡ USUAL_LEASE }
+    ensures { pos result ≡ advance r.now x elapsed }
+{
+    let pace = (USUAL_LEASE as i64 + x) as u64;
+    pace * elapsed / USUAL_LEASE
+}
+
+// The same at any lease.
+#[cold]
+fn wide_advance(r: &Rates, x: i64, elapsed: u64) -> i128
+    requires { IsSlew r.now x }
+    ensures { result ≡ advance r.now x elapsed }
 {
     let slew = i128::from(x) * i128::from(elapsed);
     i128::from(elapsed) + slew.div_euclid(i128::from(r.lease))
 }
 
+// The value of a record's line where its second part begins: at once, or after a whole lease.
+fn joint_of(r: &Rates, rec: &ClockRecord) -> i128
+    requires { IsSound r.now rec.now }
+    ensures { result ≡ first_part r.now rec.now rec.now.b.from }
+{
+    let value = i128::from(rec.a.value);
+    if rec.b.from == rec.a.from {
+        return value;
+    }
+    value + i128::from(r.lease) + i128::from(rec.a.x)
+}
+
 // The line of a record.
+#[inline]
 pub(crate) fn line_at(r: &Rates, rec: &ClockRecord, osc: u64) -> i128
     requires sound { IsSound r.now rec.now }
     requires begun { rec.now.a.from ≤ osc }
     requires osc { osc ≤ GREATEST_OSC + GREATEST_LEASE }
     ensures { result ≡ line r.now rec.now osc }
 {
-    let value = i128::from(rec.a.value);
     if osc < rec.b.from {
-        return value + advance_by(r, rec.a.x, osc - rec.a.from);
+        return i128::from(rec.a.value) + advance_by(r, rec.a.x, osc - rec.a.from);
     }
-    let at = osc.min(rec.b.from + r.lease);
-    value
-        + advance_by(r, rec.a.x, rec.b.from - rec.a.from)
-        + advance_by(r, rec.b.x, at - rec.b.from)
+    let elapsed = r.lease.min(osc - rec.b.from);
+    joint_of(r, rec) + advance_by(r, rec.b.x, elapsed)
 }
 
 // The interval of a record, also a lease ahead.
+#[inline]
 pub(crate) fn interval_ahead(r: &Rates, rec: &ClockRecord, osc: u64) -> Option<(i128, i128)>
     requires sound { IsSound r.now rec.now }
     requires born { rec.now.born ≤ osc }
@@ -86,6 +126,7 @@ pub(crate) fn interval_ahead(r: &Rates, rec: &ClockRecord, osc: u64) -> Option<(
 /// The interval that holds true time at an oscillator reading, in units of 100 ns: its ends are those of
 /// the record's anchor with the least and the most that can have passed since. None exactly without an
 /// anchor.
+#[inline]
 pub fn interval_at(r: &Rates, rec: &ClockRecord, osc: u64) -> Option<(i128, i128)>
     requires sound { IsSound r.now rec.now }
     requires born { rec.now.born ≤ osc }
@@ -122,6 +163,7 @@ fn specified_at(reach: i128) -> Option<u64>
 /// how far that is from the farther end of the interval that holds true time, in units of 100 ns; it is
 /// unspecified exactly without an anchor or above `GREATEST_INACCURACY`. Refused exactly where the oscillator reading
 /// is below that at which the record was made.
+#[inline(always)]
 pub fn read_at(r: &Rates, rec: &ClockRecord, osc: u64) -> Result<Reading, Regressed>
     requires sound { IsSound r.now rec.now }
     requires osc { osc ≤ GREATEST_OSC }

@@ -1,5 +1,6 @@
-ghost use Rattle.std.specs.Prelude.{◌≤◌};
-ghost use Rattle.slew_clock.specs.declared.rates.TheConstants.{GREATEST_DRIFT_PPM, GREATEST_RESOLUTION, LEAST_LEASE, GREATEST_LEASE, LEAST_SLEW_PPM, GREATEST_SLEW_PPM, LEAST_TOLERANCE, GREATEST_TOLERANCE};
+ghost use Rattle.std.specs.Prelude.{◌≡◌, ◌^◌, ◌<◌, ◌≤◌};
+ghost use Rattle.std.specs.Int.{div_ceil};
+ghost use Rattle.slew_clock.specs.declared.rates.TheConstants.{GREATEST_DRIFT_PPM, GREATEST_RESOLUTION, LEAST_LEASE, GREATEST_LEASE, LEAST_SLEW_PPM, GREATEST_SLEW_PPM, LEAST_TOLERANCE, GREATEST_TOLERANCE, MILLION};
 
 use thiserror::Error;
 
@@ -15,6 +16,9 @@ pub const LEAST_LEASE: u64 = 1_000_000;
 /// The longest lease, in units of 100 ns.
 pub const GREATEST_LEASE: u64 = 36_000_000_000;
 
+// The lease that a clock has by default, in units of 100 ns.
+pub(crate) const USUAL_LEASE: u64 = 40_000_000;
+
 /// The least limit of the slew, in parts per million.
 pub const LEAST_SLEW_PPM: u32 = 1;
 
@@ -29,6 +33,17 @@ pub const GREATEST_TOLERANCE: u64 = 1_000_000_000_000_000;
 
 /// Drift and slew are counted in parts per million.
 pub const MILLION: u64 = 1_000_000;
+
+// Up to so many units, the product with the drift in parts per million fits 63 bits.
+const ONE_PRODUCT: u64 = 562_949_953_421_312;
+
+// So many millionths in whole units, rounded up.
+fn millionths(parts: u64) -> u64
+    requires { parts < 2 ^ 63 }
+    ensures { result ≡ div_ceil parts MILLION }
+{
+    (parts + (MILLION - 1)) / MILLION
+}
 
 /// The rates of a clock: how far its oscillator may drift, and how fast it is slewed. The ranges of the
 /// fields include both ends.
@@ -119,7 +134,7 @@ impl Rates {
         Rates {
             drift_ppm: 100,
             resolution: 1,
-            lease: 40_000_000,
+            lease: USUAL_LEASE,
             slew_ppm: 10_000,
             tolerance: 6_000_000_000,
         }
@@ -130,8 +145,20 @@ impl Rates {
         ensures drift { result ≡ drift_of self.now elapsed }
         ensures within { result ≤ elapsed }
     {
-        let parts = u128::from(elapsed) * u128::from(self.drift_ppm);
-        parts.div_ceil(u128::from(MILLION)) as u64
+        if elapsed <= ONE_PRODUCT {
+            millionths(elapsed * u64::from(self.drift_ppm))
+        } else {
+            self.long_drift(elapsed)
+        }
+    }
+
+    // The same, also where one product does not fit: that over the whole millions, and that over the rest.
+    #[cold]
+    fn long_drift(&self, elapsed: u64) -> u64
+        ensures { result ≡ drift_of self.now elapsed }
+    {
+        let ppm = u64::from(self.drift_ppm);
+        elapsed / MILLION * ppm + millionths(elapsed % MILLION * ppm)
     }
 
     // The most that passed where the oscillator went on by so many units.

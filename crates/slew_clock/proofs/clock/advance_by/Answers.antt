@@ -1,37 +1,29 @@
-use Rattle.std.proofs.Common.{◌≡◌, ℕ, ◌^◌, ◌-◌, ◌<◌, ◌≤◌, ℤ, pos, negsuc, ◌*ℤ◌, refl, ◌∙◌, arith, lit<, SFits, to_z, of_z, unsigned_abs}
-use Rattle.std.proofs.lemmas.Int.{ints, to_z-of_z, fits_signed_mul}
-use Rattle.std.specs.Int.{w64, w128}
-use Rattle.slew_clock.specs.Line.{floor_of}
+use Rattle.std.proofs.Common.{◌≡◌, ap, ◌∙◌, arith}
+use Rattle.std.proofs.lemmas.Int.{ints, to_z-of_z}
+use Rattle.std.specs.Int.{w64}
+use Rattle.slew_clock.specs.Line.{advance}
 use Rattle.slew_clock.proofs.LineLaws.{advance_from, advance_to}
 use Rattle.slew_clock.proofs.clock.advance_by.Goals as goal
+use Rattle.slew_clock.proofs.clock.advance_by.Goals.{After-usual_advance, After-wide_advance}
 
-size : (x : ℤ) → SFits w64 x → unsigned_abs x ≤ 2 ^ 63
-size (pos a) fits = omega arith
-size (negsuc a) fits = omega arith
+pub returns-then-r-eq-USUAL_LEASE-clause-to : goal.returns-then-r-eq-USUAL_LEASE-clause-to
+returns-then-r-eq-USUAL_LEASE-clause-to c =
+    let is = c.usual_advance.ensures ∙ ap (λ x. advance c.args.r.now x c.args.elapsed) (to_z-of_z w64 c.args.x c.ranges.x) in
+    omega (arith, ints, is, c.from.ensures, advance_to c.args.r.now c.args.x c.args.elapsed c.requires.slew)
 
--- the product of a number of 64 bits and one below 2^64 fits 128 bits
-product_fits : (x : ℤ) (e : ℕ) → SFits w64 x → e < 2 ^ 64 → SFits w128 (x *ℤ pos e)
-product_fits x e fits below =
-    fits_signed_mul w128 x (pos e) (2 ^ 63) (2 ^ 64 - 1) (size x fits) (omega arith) (lit< tt)
+wide_is : (c : After-wide_advance) → c.wide_advance.result ≡ advance c.args.r.now c.args.x c.args.elapsed
+wide_is c = c.wide_advance.ensures ∙ ap (λ x. advance c.args.r.now x c.args.elapsed) (to_z-of_z w64 c.args.x c.ranges.x)
 
--- nothing is lost on the way
-pub returns-clause-advance : goal.returns-clause-advance
-returns-clause-advance c =
-    let slew : to_z w128 (of_z w128 c.from.result) ≡ c.args.x = omega (arith, ints) in
-    let elapsed : to_z w128 (of_z w128 c.from-2.result) ≡ pos c.args.elapsed = omega (arith, ints) in
-    let lease : to_z w128 (of_z w128 c.from-4.result) ≡ pos c.args.r.now.lease = omega (arith, ints) in
-    let fits = product_fits c.args.x c.args.elapsed c.ranges.x (omega arith) in
-    let whole = to_z-of_z w128 (c.args.x *ℤ pos c.args.elapsed) fits in
-    let floor : c.div_euclid.result ≡ floor_of (c.args.x *ℤ pos c.args.elapsed) c.args.r.now.lease =
-    c.div_euclid.ensures ∙ rw (slew, elapsed, lease, whole) refl in
-    let from = advance_from c.args.r.now c.args.x c.args.elapsed c.requires in
-    let to = advance_to c.args.r.now c.args.x c.args.elapsed c.requires in
-    omega (arith, ints, floor, from, to)
+pub returns-else-r-eq-USUAL_LEASE-clause-from : goal.returns-else-r-eq-USUAL_LEASE-clause-from
+returns-else-r-eq-USUAL_LEASE-clause-from c =
+    let is = wide_is (goal.at.returns-else-r-eq-USUAL_LEASE-clause-from c).After-wide_advance in
+    let from = advance_from c.args.r.now c.args.x c.args.elapsed c.requires.slew in
+    let to = advance_to c.args.r.now c.args.x c.args.elapsed c.requires.slew in
+    omega (arith, ints, is, from, to)
 
-pub returns-clause-from : goal.returns-clause-from
-returns-clause-from c =
-    rw (returns-clause-advance c) (advance_from c.args.r.now c.args.x c.args.elapsed c.requires)
-
-pub returns-clause-to : goal.returns-clause-to
-returns-clause-to c =
-    rw (returns-clause-advance c) (advance_to c.args.r.now c.args.x c.args.elapsed c.requires)
+pub returns-else-r-eq-USUAL_LEASE-clause-to : goal.returns-else-r-eq-USUAL_LEASE-clause-to
+returns-else-r-eq-USUAL_LEASE-clause-to c =
+    let is = wide_is (goal.at.returns-else-r-eq-USUAL_LEASE-clause-to c).After-wide_advance in
+    let from = advance_from c.args.r.now c.args.x c.args.elapsed c.requires.slew in
+    let to = advance_to c.args.r.now c.args.x c.args.elapsed c.requires.slew in
+    omega (arith, ints, is, from, to)
