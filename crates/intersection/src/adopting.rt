@@ -6,11 +6,23 @@ use dts_base::{Interval, NoMemory};
 use std::alloc::Global;
 use std::marker::Model;
 
+// Whether an interval holds a point. Both ends are compared, whatever the first one says: a jump between them would cost
+// more.
+fn has_point(i: &Interval, p: i64) -> bool
+    ensures { result ≡ holds (ends_of i.now) p }
+{
+    (i.lo <= p) & (p <= i.hi)
+}
+
 // How many intervals hold a point.
 fn count(s: &[Interval], p: i64) -> usize
     ensures { result ≡ count_by (λ i. holds (ends_of i) p) s.now }
 {
-    s.iter().filter(|i| i.lo <= p && p <= i.hi).count()
+    let mut count = 0;
+    for i in s {
+        count += usize::from(has_point(i, p));
+    }
+    count
 }
 
 // Whether enough of the intervals hold a point.
