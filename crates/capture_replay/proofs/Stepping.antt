@@ -1,6 +1,6 @@
 -- The steps of a node, by the rules.
-use Rattle.std.proofs.Common.{Vec, Global, ◌≡◌, ℕ, ◌<◌, ◌≤◌, cond, Bool, true, false, List, [], ◌∷◌, Some, None, refl, sym, ap, ◌∙◌, subst, arith}
-use Rattle.std.specs.Prelude.{nat_le, ◌&&◌, is_some, Result, Ok, Err, IfOk}
+use Rattle.std.proofs.Common.{◌≡◌, ℕ, ◌<◌, ◌≤◌, cond, Bool, true, false, List, [], ◌∷◌, Some, None, refl, sym, ap, ◌∙◌, subst, arith}
+use Rattle.std.specs.Prelude.{nat_le, ◌&&◌, is_some, Result, Ok, Err, IfOk, OnOk}
 use Rattle.slew_clock.specs.declared.reading.Reading.{Reading}
 use Rattle.std.proofs.lemmas.Bool.{leb-true, leb-false}
 use Rattle.slew_clock.specs.declared.limits.TheConstants.{GREATEST_OSC}
@@ -196,11 +196,11 @@ if_ok (Ok v) P Q p f = f v p
 if_ok (Err e) P Q p f = tt
 
 -- the step of an event at which the oscillator went back
-pub back_ok : (node : Node) (e : Event) (back : Action) (r : Result (Vec Action Global) NoMemory) → event_part e ≡ Sync → IsEventInRange e → event_peer e ≡ None → closes e ≡ []
-    → (event_osc e < node.sync_osc) × (back ≡ noted_at (event_osc e) (note.Regressed node.sync_osc)) → IfOk r (λ actions. actions.items ≡ back ∷ [])
-    → IfOk r (λ actions. IsStep node node e actions.items)
-back_ok node e back r sync range alone none is found =
-    if_ok r _ _ found (λ actions has. subst (IsStep node node e) (sym (has ∙ ap (λ a. a ∷ []) is.1)) (back_step node e sync range is.0 alone none))
+pub back_ok : (node : Node) (e : Event) (back : Action) (r : Result (Unit {0}) NoMemory) (actions : List Action) → event_part e ≡ Sync → IsEventInRange e → event_peer e ≡ None → closes e ≡ []
+    → (event_osc e < node.sync_osc) × (back ≡ noted_at (event_osc e) (note.Regressed node.sync_osc)) → OnOk r (actions ≡ back ∷ [])
+    → OnOk r (IsStep node node e actions)
+back_ok node e back r actions sync range alone none is found =
+    if_ok r _ _ found (λ _ has. subst (IsStep node node e) (sym (has ∙ ap (λ a. a ∷ []) is.1)) (back_step node e sync range is.0 alone none))
 
 -- ---- reads
 floor_same : (node : Node) (h : History) (osc : ℕ) → StandsFor node h → floor_at (Lane 0) node.lane_osc node.current ≡ floor_of h (event.Read osc)

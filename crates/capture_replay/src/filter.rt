@@ -125,7 +125,8 @@ fn take_event(
     if !is_built(&event) {
         return Err(Unfit::Refused(CaptureFault::at_first(LineCause::Word)));
     }
-    let Ok(actions) = node.step(alloc, event) else {
+    let mut actions = Vec::new(alloc);
+    let Ok(()) = node.step(alloc, event, &mut actions) else {
         return Err(Unfit::NoMemory);
     };
     put_all(alloc, log, &actions)

@@ -1,4 +1,4 @@
-ghost use Rattle.std.specs.Prelude.{◌≡◌, ℕ, ◌+◌, ◌<◌, ◌≤◌, true, IfOk, OnOk, OnErr, MatchOption};
+ghost use Rattle.std.specs.Prelude.{◌≡◌, ℕ, ◌+◌, ◌<◌, ◌≤◌, true, [], OnOk, OnErr, MatchOption};
 ghost use Rattle.slew_clock.specs.declared.limits.TheConstants.{GREATEST_OSC};
 ghost use Rattle.slew_clock.specs.Started.{started};
 ghost use Rattle.slew_clock.specs.Record.{IsSound};
@@ -85,44 +85,52 @@ impl Node {
         self.current.number
     }
 
-    /// Takes an event, and gives the actions of the rules, in order. After NoMemory the node is as it was.
-    pub fn step(&mut self, alloc: Global, event: Event) -> Result<Vec<Action>, NoMemory>
+    /// Takes an event, and puts the actions of the rules, in order, in the place of all that a list holds. After NoMemory
+    /// the node is as it was.
+    pub fn step(
+        &mut self,
+        alloc: Global,
+        event: Event,
+        actions: &mut Vec<Action>,
+    ) -> Result<(), NoMemory>
         requires stands { (history : History) × StandsFor self.old history }
         requires range { IsEventInRange event }
         requires built { is_built event ≡ true }
         requires number { self.old.current.number < u64.MAX }
-        ensures step { IfOk result (λ actions. IsStep self.old self.new event actions.items) }
+        ensures step { OnOk result (IsStep self.old self.new event actions.new.items) }
         ensures kept { OnErr result (IsKept self.old self.new) }
         ensures number { self.new.current.number ≤ self.old.current.number + 1 }
     {
+        actions.clear();
         match event {
-            Event::Tick { osc, .. } => self.take_tick(alloc, osc),
-            Event::Read { osc } => self.take_read(alloc, osc),
-            Event::Query { osc, tag } => self.take_query(alloc, osc, tag),
-            Event::Source { osc, tag, interval } => self.take_source(alloc, osc, tag, interval),
-            Event::Adopt { osc, required } => self.take_adopt(alloc, osc, required),
+            Event::Tick { osc, .. } => self.take_tick(osc, actions),
+            Event::Read { osc } => self.take_read(osc, actions),
+            Event::Query { osc, tag } => self.take_query(osc, tag, actions),
+            Event::Source { osc, tag, interval } => self.take_source(osc, tag, interval, actions),
+            Event::Adopt { osc, required } => self.take_adopt(alloc, osc, required, actions),
             _ => unreachable!(),
         }
     }
 
     // Takes a read of the clock at an oscillator reading.
-    fn take_read(&mut self, alloc: Global, osc: u64) -> Result<Vec<Action>, NoMemory>
+    fn take_read(&mut self, osc: u64, actions: &mut Vec<Action>) -> Result<(), NoMemory>
         requires stands { (history : History) × StandsFor self.old history }
         requires osc { osc ≤ GREATEST_OSC }
-        ensures step { IfOk result (λ actions. IsStep self.old self.new (event.Read osc) actions.items) }
+        requires empty { actions.old.items ≡ [] }
+        ensures step { OnOk result (IsStep self.old self.new (event.Read osc) actions.new.items) }
         ensures kept { OnErr result (self.new ≡ self.old) }
         ensures number { self.new.current ≡ self.old.current }
     {
         let floor = self.lane_osc.max(self.current.born);
         if osc < floor {
-            return single(alloc, note(osc, NoteKind::Regressed { floor }));
+            return single(actions, note(osc, NoteKind::Regressed { floor }));
         }
         let Ok(reading) = read_at(&self.rates, &self.current, osc) else {
             unreachable!()
         };
-        let actions = single(alloc, note(osc, reading_note(&reading)))?;
+        single(actions, note(osc, reading_note(&reading)))?;
         self.lane_osc = osc;
-        Ok(actions)
+        Ok(())
     }
 
     // The note on an event of the sync part at which the oscillator went back, where it did.
@@ -137,62 +145,65 @@ impl Node {
     }
 
     // Takes a tick at an oscillator reading: renews the clock where that is due, and publishes the record.
-    fn take_tick(&mut self, alloc: Global, osc: u64) -> Result<Vec<Action>, NoMemory>
+    fn take_tick(&mut self, osc: u64, actions: &mut Vec<Action>) -> Result<(), NoMemory>
         requires stands { (history : History) × StandsFor self.old history }
         requires osc { osc ≤ GREATEST_OSC }
         requires number { self.old.current.number < u64.MAX }
-        ensures step { IfOk result (λ actions. (word : ℕ) → IsStep self.old self.new (event.Tick osc word) actions.items) }
+        requires empty { actions.old.items ≡ [] }
+        ensures step { OnOk result ((word : ℕ) → IsStep self.old self.new (event.Tick osc word) actions.new.items) }
         ensures kept { OnErr result (self.new ≡ self.old) }
         ensures number { self.new.current.number ≤ self.old.current.number + 1 }
     {
         if let Some(back) = self.regressed(osc) {
-            return single(alloc, back);
+            return single(actions, back);
         }
         let Some(rec) = renewed(&self.rates, &self.current, osc) else {
             self.sync_osc = osc;
-            return Ok(Vec::new(alloc));
+            return Ok(());
         };
-        let actions = single(alloc, Action::Publish { rec })?;
+        single(actions, Action::Publish { rec })?;
         self.sync_osc = osc;
         self.current = rec;
-        Ok(actions)
+        Ok(())
     }
 
     // Takes the asking of a tag of a direct round at an oscillator reading.
-    fn take_query(&mut self, alloc: Global, osc: u64, tag: u32) -> Result<Vec<Action>, NoMemory>
+    fn take_query(&mut self, osc: u64, tag: u32, actions: &mut Vec<Action>) -> Result<(), NoMemory>
         requires osc { osc ≤ GREATEST_OSC }
-        ensures step { IfOk result (λ actions. IsStep self.old self.new (event.Query osc tag) actions.items) }
+        requires empty { actions.old.items ≡ [] }
+        ensures step { OnOk result (IsStep self.old self.new (event.Query osc tag) actions.new.items) }
         ensures kept { OnErr result (IsKept self.old self.new) }
         ensures number { self.new.current ≡ self.old.current }
     {
         if let Some(back) = self.regressed(osc) {
-            return single(alloc, back);
+            return single(actions, back);
         }
-        let actions = self.round.take_query(alloc, osc, tag)?;
+        self.round.take_query(osc, tag, actions)?;
         self.sync_osc = osc;
-        Ok(actions)
+        Ok(())
     }
 
     // Takes the answer to a tag of a direct round at an oscillator reading.
     fn take_source(
         &mut self,
-        alloc: Global,
         osc: u64,
         tag: u32,
         interval: Interval,
-    ) -> Result<Vec<Action>, NoMemory>
+        actions: &mut Vec<Action>,
+    ) -> Result<(), NoMemory>
         requires osc { osc ≤ GREATEST_OSC }
         requires ends { IsTime interval.lo × IsTime interval.hi }
-        ensures step { IfOk result (λ actions. IsStep self.old self.new (event.Source osc tag interval) actions.items) }
+        requires empty { actions.old.items ≡ [] }
+        ensures step { OnOk result (IsStep self.old self.new (event.Source osc tag interval) actions.new.items) }
         ensures kept { OnErr result (IsKept self.old self.new) }
         ensures number { self.new.current ≡ self.old.current }
     {
         if let Some(back) = self.regressed(osc) {
-            return single(alloc, back);
+            return single(actions, back);
         }
-        let actions = self.round.take_source(alloc, osc, tag, interval)?;
+        self.round.take_source(osc, tag, interval, actions)?;
         self.sync_osc = osc;
-        Ok(actions)
+        Ok(())
     }
 
     // Takes the end of a direct round at an oscillator reading, where so many answers are required.
@@ -201,82 +212,85 @@ impl Node {
         alloc: Global,
         osc: u64,
         required: u32,
-    ) -> Result<Vec<Action>, NoMemory>
+        actions: &mut Vec<Action>,
+    ) -> Result<(), NoMemory>
         requires stands { (history : History) × StandsFor self.old history }
         requires osc { osc ≤ GREATEST_OSC }
         requires number { self.old.current.number < u64.MAX }
-        ensures step { IfOk result (λ actions. IsStep self.old self.new (event.Adopt osc required) actions.items) }
+        requires empty { actions.old.items ≡ [] }
+        ensures step { OnOk result (IsStep self.old self.new (event.Adopt osc required) actions.new.items) }
         ensures kept { OnErr result (self.new ≡ self.old) }
         ensures number { self.new.current.number ≤ self.old.current.number + 1 }
     {
         if let Some(back) = self.regressed(osc) {
-            return single(alloc, back);
+            return single(actions, back);
         }
         let outcome = self.round.outcome(alloc, &self.rates, required, osc)?;
-        let actions = self.conclude(alloc, osc, outcome)?;
+        self.conclude(osc, outcome, actions)?;
         self.round.clear();
         self.sync_osc = osc;
-        Ok(actions)
+        Ok(())
     }
 
     // Gives what comes of a round, and changes the clock where an interval is adopted.
     fn conclude(
         &mut self,
-        alloc: Global,
         osc: u64,
         outcome: DirectOutcome,
-    ) -> Result<Vec<Action>, NoMemory>
+        actions: &mut Vec<Action>,
+    ) -> Result<(), NoMemory>
         requires sound { IsSound self.old.rates self.old.current }
         requires born { self.old.current.born ≤ osc }
         requires osc { osc ≤ GREATEST_OSC }
         requires number { self.old.current.number < u64.MAX }
         requires adoptable { IsAdoptable outcome }
         requires carriable { AreCarriable osc self.old.round }
-        ensures state { IfOk result (λ actions. self.new ≡ record self.old { current = published self.old.current actions.items }) }
-        ensures actions { IfOk result (λ actions. actions.items ≡ concluded self.old osc (outcome_kept outcome)) }
+        requires empty { actions.old.items ≡ [] }
+        ensures state { OnOk result (self.new ≡ record self.old { current = published self.old.current actions.new.items }) }
+        ensures actions { OnOk result (actions.new.items ≡ concluded self.old osc (outcome_kept outcome)) }
         ensures kept { OnErr result (self.new ≡ self.old) }
         ensures number { self.new.current.number ≤ self.old.current.number + 1 }
     {
         match outcome {
             DirectOutcome::Short { answered, required } => {
-                single(alloc, note(osc, NoteKind::Short { answered, required }))
+                single(actions, note(osc, NoteKind::Short { answered, required }))
             }
-            DirectOutcome::Split { n } => single(alloc, note(osc, NoteKind::Split { n })),
-            DirectOutcome::Adopted { n, interval } => self.adopt(alloc, osc, n, interval),
+            DirectOutcome::Split { n } => single(actions, note(osc, NoteKind::Split { n })),
+            DirectOutcome::Adopted { n, interval } => self.adopt(osc, n, interval, actions),
         }
     }
 
     // Anchors the clock to an interval that so many answers gave, or steps to it.
     fn adopt(
         &mut self,
-        alloc: Global,
         osc: u64,
         n: u32,
         interval: Interval,
-    ) -> Result<Vec<Action>, NoMemory>
+        actions: &mut Vec<Action>,
+    ) -> Result<(), NoMemory>
         requires sound { IsSound self.old.rates self.old.current }
         requires born { self.old.current.born ≤ osc }
         requires osc { osc ≤ GREATEST_OSC }
         requires number { self.old.current.number < u64.MAX }
         requires range { IsInRange (ends_of interval) }
         requires carriable { AreCarriable osc self.old.round }
+        requires empty { actions.old.items ≡ [] }
         ensures kept { OnErr result (self.new ≡ self.old) }
-        ensures state { IfOk result (λ actions. self.new ≡ record self.old { current = published self.old.current actions.items }) }
-        ensures actions { IfOk result (λ actions. actions.items ≡ concluded self.old osc (Adopted n (ends_of interval))) }
+        ensures state { OnOk result (self.new ≡ record self.old { current = published self.old.current actions.new.items }) }
+        ensures actions { OnOk result (actions.new.items ≡ concluded self.old osc (Adopted n (ends_of interval))) }
         ensures number { self.new.current.number ≤ self.old.current.number + 1 }
     {
         let Ok(next) = changed(&self.rates, &self.current, osc, interval) else {
             unreachable!()
         };
-        let mut actions = single(alloc, adopted_note(osc, n, interval))?;
-        self.round
-            .note_false(&self.rates, osc, &interval, &mut actions)?;
+        single(actions, adopted_note(osc, n, interval))?;
+        self.round.note_false(&self.rates, osc, &interval, actions)?;
         if next.step != self.current.step {
             actions.push(self.step_note(osc, &next))?;
         }
         actions.push(Action::Publish { rec: next })?;
         self.current = next;
-        Ok(actions)
+        Ok(())
     }
 
     // The note on a step to this record.

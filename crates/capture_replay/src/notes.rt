@@ -1,9 +1,8 @@
-ghost use Rattle.std.specs.Prelude.{◌≡◌, [], ◌∷◌, IfOk};
+ghost use Rattle.std.specs.Prelude.{◌≡◌, [], ◌∷◌, OnOk};
 ghost use Rattle.capture_replay.specs.Notes.{noted_at};
 
 use dts_base::NoMemory;
 use dts_capture::{Action, Note, NoteKind};
-use std::alloc::Global;
 
 // A note on an event without a peer.
 pub(crate) fn note(osc: u64, kind: NoteKind) -> Action
@@ -16,11 +15,11 @@ pub(crate) fn note(osc: u64, kind: NoteKind) -> Action
     })
 }
 
-// A list of one action.
-pub(crate) fn single(alloc: Global, action: Action) -> Result<Vec<Action>, NoMemory>
-    ensures { IfOk result (λ actions. actions.items ≡ action ∷ []) }
+// Puts an action into an empty list.
+pub(crate) fn single(actions: &mut Vec<Action>, action: Action) -> Result<(), NoMemory>
+    requires { actions.old.items ≡ [] }
+    ensures { OnOk result (actions.new.items ≡ action ∷ []) }
 {
-    let mut actions = Vec::new(alloc);
     actions.push(action)?;
-    Ok(actions)
+    Ok(())
 }

@@ -129,34 +129,41 @@ impl DirectRound {
         asked.map(|asked| asked.osc)
     }
 
-    /// Takes the asking of a tag at an oscillator reading, and gives the actions of the rules.
-    pub fn take_query(&mut self, alloc: Global, osc: u64, tag: u32) -> Result<Vec<Action>, NoMemory>
-        ensures step { IfOk result (λ actions. IsRoundStep self.old self.new (event.Query osc tag) actions.items) }
+    /// Takes the asking of a tag at an oscillator reading, and puts the actions of the rules into an empty list.
+    pub fn take_query(
+        &mut self,
+        osc: u64,
+        tag: u32,
+        actions: &mut Vec<Action>,
+    ) -> Result<(), NoMemory>
+        requires { actions.old.items ≡ [] }
+        ensures step { OnOk result (IsRoundStep self.old self.new (event.Query osc tag) actions.new.items) }
         ensures kept { OnErr result (IsRoundKept self.old self.new) }
     {
         if self.is_asked(tag) {
-            return single(alloc, note(osc, NoteKind::RepeatedTag { tag }));
+            return single(actions, note(osc, NoteKind::RepeatedTag { tag }));
         }
         if self.is_full() {
-            return single(alloc, note(osc, NoteKind::TagsFull));
+            return single(actions, note(osc, NoteKind::TagsFull));
         }
         self.asked.push(AskedTag { tag, osc })?;
-        Ok(Vec::new(alloc))
+        Ok(())
     }
 
-    /// Takes the answer to a tag at an oscillator reading, and gives the actions of the rules.
+    /// Takes the answer to a tag at an oscillator reading, and puts the actions of the rules into an empty list.
     pub fn take_source(
         &mut self,
-        alloc: Global,
         osc: u64,
         tag: u32,
         interval: Interval,
-    ) -> Result<Vec<Action>, NoMemory>
-        ensures step { IfOk result (λ actions. IsRoundStep self.old self.new (event.Source osc tag interval) actions.items) }
+        actions: &mut Vec<Action>,
+    ) -> Result<(), NoMemory>
+        requires { actions.old.items ≡ [] }
+        ensures step { OnOk result (IsRoundStep self.old self.new (event.Source osc tag interval) actions.new.items) }
         ensures kept { OnErr result (IsRoundKept self.old self.new) }
     {
         let Some(asked) = self.open_since(tag) else {
-            return single(alloc, note(osc, NoteKind::UnknownTag { tag }));
+            return single(actions, note(osc, NoteKind::UnknownTag { tag }));
         };
         self.answers.push(TagAnswer {
             tag,
@@ -164,7 +171,7 @@ impl DirectRound {
             got: osc,
             interval,
         })?;
-        Ok(Vec::new(alloc))
+        Ok(())
     }
 
     /// What comes of the answers at an oscillator reading, where so many are required.
@@ -200,7 +207,7 @@ impl DirectRound {
         requires osc { osc ≤ GREATEST_OSC }
         ensures { IfOk result (λ v. map ends_of v.items ≡ map (λ a. carried_to rates.now osc (answer_kept a)) self.now.answers.items) }
     {
-        let mut carried = Vec::new(alloc);
+        let mut carried = Vec::with_capacity(alloc, self.answers.len())?;
         for answer in &self.answers {
             carried.push(answer.carried(rates, osc))?;
         }

@@ -12,7 +12,7 @@ returns-clause-actions c =
     let i = ends_of c.args.interval in
     let next = c.in-Ok.next in
     let notes = c.note_false.new.actions.items in
-    let are = c.in_ok-note_false.ensures ∙ ap (λ xs. xs ++ false_notes node.rates c.args.osc i node.round.answers.items) (c.in_ok-actions.ensures ∙ ap (λ a. a ∷ []) c.adopted_note.ensures) in
+    let are = c.in_ok-note_false.ensures ∙ ap (λ xs. xs ++ false_notes node.rates c.args.osc i node.round.answers.items) (c.in_ok-single.ensures ∙ ap (λ a. a ∷ []) c.adopted_note.ensures) in
     c.in_ok-push-2.ensures.items ∙ elim c.if-next-self.branch [
       | then-next-self+in_ok-push w ↦ adoption_gives node c.args.osc c.args.n i next notes c.if-next-self.actions.items c.in-Ok.ensures.changed are
           (inl (w.if-next-self.true, ap (λ v. v.items) w.actions-is ∙ w.in_ok-push.ensures.items ∙ ap (λ a. notes ++ a ∷ []) w.step_note.ensures))

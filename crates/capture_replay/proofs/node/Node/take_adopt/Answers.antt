@@ -9,7 +9,7 @@ use Rattle.capture_replay.proofs.node.Node.take_adopt.Goals as goal
 
 pub returns-in-Some-clause-step : goal.returns-in-Some-clause-step
 returns-in-Some-clause-step c =
-    back_ok c.args.self.now (event.Adopt c.args.osc c.args.required) c.in-Some.back c.single.result refl c.requires.osc refl refl c.in-Some.ensures c.single.ensures
+    back_ok c.args.self.now (event.Adopt c.args.osc c.args.required) c.in-Some.back c.single.result c.single.new.actions.items refl c.requires.osc refl refl c.in-Some.ensures c.single.ensures
 
 pub outcome-requires-clause-carriable : goal.outcome-requires-clause-carriable
 outcome-requires-clause-carriable c =
@@ -37,8 +37,8 @@ conclude-requires-clause-carriable c =
 pub returns-clause-step : goal.returns-clause-step
 returns-clause-step c =
     let node = c.args.self.now in
-    let actions = c.in_ok-actions.actions.items in
+    let actions = c.conclude.new.actions.items in
     subst (λ (n : Node). IsStep node (record { rates = n.rates; current = n.current; sync_osc = c.args.osc; lane_osc = n.lane_osc; round = c.clear.new.self }) (event.Adopt c.args.osc c.args.required) actions)
-    (sym c.in_ok-actions.ensures.state)
+    (sym c.in_ok-conclude.ensures.state)
     (adopt_step node c.clear.new.self c.args.osc c.args.required c.in_ok-outcome.outcome actions c.requires.osc c.in_default.ensures c.clear.ensures.asked c.clear.ensures.answers
-    c.in_ok-outcome.ensures c.in_ok-actions.ensures.actions)
+    c.in_ok-outcome.ensures c.in_ok-conclude.ensures.actions)

@@ -5,8 +5,8 @@ use Rattle.capture_replay.proofs.node.Node.take_query.Goals as goal
 
 pub returns-in-Some-clause-step : goal.returns-in-Some-clause-step
 returns-in-Some-clause-step c =
-    back_ok c.args.self.now (event.Query c.args.osc c.args.tag) c.in-Some.back c.single.result refl c.requires.osc refl refl c.in-Some.ensures c.single.ensures
+    back_ok c.args.self.now (event.Query c.args.osc c.args.tag) c.in-Some.back c.single.result c.single.new.actions.items refl c.requires.osc refl refl c.in-Some.ensures c.single.ensures
 
 pub returns-clause-step : goal.returns-clause-step
 returns-clause-step c =
-    query_step c.args.self.now c.take_query.new.self c.args.osc c.args.tag c.in_ok-actions.actions.items c.requires.osc c.in_default.ensures c.in_ok-actions.ensures.step
+    query_step c.args.self.now c.take_query.new.self c.args.osc c.args.tag c.take_query.new.actions.items c.requires.osc c.in_default.ensures c.in_ok-take_query.ensures.step

@@ -9,7 +9,7 @@ use Rattle.capture_replay.proofs.node.Node.take_read.Goals as goal
 pub returns-then-osc-floor-clause-step : goal.returns-then-osc-floor-clause-step
 returns-then-osc-floor-clause-step c =
     let node = c.args.self.now in
-    if_ok c.single.result _ _ c.single.ensures (λ actions has.
+    if_ok c.single.result _ _ c.single.ensures (λ _ has.
     subst (IsStep node node (event.Read c.args.osc)) (sym (has ∙ ap (λ a. a ∷ []) (c.note.ensures ∙ ap (λ f. noted_at c.args.osc (note.Regressed f)) c.max-floor.ensures)))
     (read_is_regressed node c.args.osc c.requires.osc (omega (arith, c.max-floor.ensures, c.if-osc-floor.true))))
 
@@ -21,5 +21,5 @@ returns-clause-step c =
     let node = c.args.self.now in
     let noted = c.reading_note.ensures ∙ reading_noted node c.args.osc c.in-Ok.reading c.in-Ok.ensures.reading in
     subst (IsStep node (record node { lane_osc = c.args.osc }) (event.Read c.args.osc))
-    (sym (c.in_ok-actions.ensures ∙ ap (λ a. a ∷ []) (c.note-2.ensures ∙ ap (noted_at c.args.osc) noted)))
+    (sym (c.in_ok-single.ensures ∙ ap (λ a. a ∷ []) (c.note-2.ensures ∙ ap (noted_at c.args.osc) noted)))
     (read_reads node c.args.osc c.requires.osc (omega (arith, c.max-floor.ensures, c.if-osc-floor.false)))

@@ -27,14 +27,14 @@ step-requires-clause-built c =
 pub returns-clause-stands : goal.returns-clause-stands
 returns-clause-stands c = λ n history few s.
     let m = c.args.self.now.maker in
-    let actions = c.in_ok-actions.actions.items in
+    let actions = c.step.new.actions.items in
     let same : c.next_event-event.result ≡ (made m).event = c.next_event-event.ensures.event in
     let given : actions_of history (made m).event ≡ actions =
-    ap (actions_of history) (sym same) ∙ c.in_ok-actions.ensures.step.gives history s.node in
+    ap (actions_of history) (sym same) ∙ c.in_ok-step.ensures.step.gives history s.node in
     record {
       node = subst (λ (e : Event). StandsFor c.step.new.self (followed_by history e)) same
-          (c.in_ok-actions.ensures.step.stands history s.node);
-      number = omega (arith, s.number, c.in_ok-actions.ensures.number);
+          (c.in_ok-step.ensures.step.stands history s.node);
+      number = omega (arith, s.number, c.in_ok-step.ensures.number);
       made = subst (HasMade (n + 1)) (sym c.next_event-event.ensures.next) (fit_made n m few s.made).next;
       counts = c.count_all.ensures ∙ ap (λ xs. plus c.args.self.now.counts (counts_of xs)) c.deref.ensures.value
           ∙ ap (λ k. plus k (counts_of actions)) s.counts ∙ counts-append (actions_in history) actions
