@@ -2,7 +2,7 @@
 use Rattle.std.proofs.Common.{◌≡◌, ℕ, pos, List, [], ◌∷◌, Some, None, Ok, Err, refl}
 use Rattle.slew_clock.specs.Line.{line}
 use Rattle.slew_clock.specs.Reading.{interval_of, inaccuracy_of}
-use Rattle.clerk.specs.Outcome.{concluded}
+use Rattle.clerk.specs.Outcome.{Adopted, concluded}
 use Rattle.ndr.specs.declared.endian.Endian.TheVariants.{Little}
 use Rattle.pdu_fields.specs.declared.pdu.Pdu.{Pdu}
 use Rattle.pdu_fields.specs.declared.pdu.Body.TheVariants as body
@@ -16,6 +16,7 @@ use Rattle.dts_capture.specs.declared.action.Action.TheVariants as action
 use Rattle.dts_capture.specs.declared.action.NoteKind.TheVariants as note
 use Rattle.sync_rules.specs.History.{Start, current_record}
 use Rattle.sync_rules.specs.Live.{live_osc}
+use Rattle.sync_rules.specs.Rounds.{Answer}
 use Rattle.sync_rules.specs.Rules.{noted}
 use Rattle.node_rules.specs.History.{NodeHistory, Began, Next, RoundEnded, PduTaken, QueryAnswered, OctetsCame}
 use Rattle.node_rules.specs.Sessions.{session_of, octets_from, taken_from}
@@ -54,10 +55,19 @@ response_pdu = record { call_id = 2; flags = 3; minor = 0; endian = Little; body
 abbrev answer : Event
 answer = event.Stream 3000 0 response_octets
 
+abbrev answered : Answer
+answered = record {
+  tag = 0;
+  asked = record { position = 3; osc = 1000 };
+  got = record { position = 4; osc = 3000 };
+  lo = pos 4999999000;
+  hi = pos 5000001000;
+}
+
 abbrev adopted : NodeHistory
 adopted = Next asked answer
     (OctetsCame 0 response_octets ∷ PduTaken 0 response_pdu (Ok (out.Reply 2 time_stub Little)) ∷ QueryAnswered 0 (pos 4999999000) (pos 5000001000)
-    ∷ RoundEnded ∷ [])
+    ∷ RoundEnded (Adopted 1 (pos 4999999000, pos 5000003002)) (answered ∷ []) None ∷ [])
     (noted answer (note.Adopted 1 (pos 4999999000) (pos 5000003002))
     ∷ noted answer (note.Step 1 (pos 1003000) (pos 5000001001))
     ∷ action.Publish (record {

@@ -53,7 +53,13 @@ a_server = record { settings = settings role.Server; entries = server (codes "s"
 abbrev pub ntp_clerk : RosterData
 ntp_clerk = record { settings = settings role.Clerk; entries = server (codes "s") kind.Ntp ∷ [] }
 
--- a clerk of two local servers
+-- a clerk of two servers of NTP, and one of two local servers
+abbrev pub ntp_clerk_of_two : RosterData
+ntp_clerk_of_two = record {
+  settings = settings role.Clerk;
+  entries = server (codes "s") kind.Ntp ∷ server (codes "t") kind.Ntp ∷ [];
+}
+
 abbrev pub two_servers : RosterData
 two_servers = record { settings = settings role.Clerk; entries = server (codes "s") kind.Local ∷ server (codes "t") kind.Local ∷ [] }
 

@@ -23,7 +23,7 @@ use Rattle.node_rules.specs.History.{NodeHistory, Began}
 use Rattle.node_rules.specs.Connections.{connection_of}
 use Rattle.node_rules.specs.Sessions.{session_of, octets_from, taken_from}
 use Rattle.node_rules.specs.Rules.{followed_by, node_actions, extended}
-use Rattle.node_rules.proofs.Nodes.{ntp_clerk, tick, unknown}
+use Rattle.node_rules.proofs.Nodes.{ntp_clerk, ntp_clerk_of_two, tick, unknown}
 
 -- ---- a clerk of one server of NTP, and the packet of its first round
 abbrev start : Start
@@ -91,6 +91,21 @@ a_reply_has_one_query : node_actions (extended asked (comes 2000 reply ∷ [])) 
 unfolding node_actions followed_by current_record live_osc line interval_of inaccuracy_of session_of octets_from
     taken_from concluded reading octets_of packet_reading first_failed
 a_reply_has_one_query = refl
+
+-- also where the round goes on, since another server has not answered
+abbrev asked_both : NodeHistory
+asked_both = extended (Began ntp_clerk_of_two start) (tick 0 ∷ tick 0 ∷ [])
+
+a_first_reply_waits : node_actions asked_both (comes 2000 reply) ≡ []
+unfolding node_actions followed_by current_record live_osc line interval_of inaccuracy_of session_of octets_from
+    taken_from concluded reading octets_of packet_reading first_failed
+a_first_reply_waits = refl
+
+a_reply_counts_once : node_actions (extended asked_both (comes 2000 reply ∷ [])) (comes 2500 reply)
+    ≡ noted (comes 2500 reply) note.NoQuery ∷ []
+unfolding node_actions followed_by current_record live_osc line interval_of inaccuracy_of session_of octets_from
+    taken_from concluded reading octets_of packet_reading first_failed
+a_reply_counts_once = refl
 
 -- ---- what a reply is refused for; its query stays open
 abbrev refusing : Packet → NoteKind → List Action

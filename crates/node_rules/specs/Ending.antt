@@ -44,7 +44,8 @@ closed_in roster found round = filter (λ peer. not (is_ntp (kind_of roster peer
 abbrev pub concludes : Event → Round → NodeHistory → Outcome → NodeHistory
 concludes event round history (Waiting unanswered deadline) = history
 concludes event round history outcome = let closed = closed_in (roster_of history) (found_in history) round in
-    gives history (RoundEnded ∷ map PeerEnded closed)
+    let answers = answers_in (roster_of history) (found_in history) in let own = own_at history (event_osc event) in
+    gives history (RoundEnded outcome answers own ∷ map PeerEnded closed)
     (gives_outcome event history outcome ++ map (action.Close (event_osc event)) closed)
 
 abbrev pub evaluates_open : Event → NodeHistory → Option Round → NodeHistory

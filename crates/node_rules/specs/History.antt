@@ -1,5 +1,5 @@
 -- The history of a node with peers: what happened to it, what its rules found in that, and the actions that it gave.
-use Rattle.std.specs.Prelude.{ℕ, ◌+◌, ℤ, List, [], ◌++◌, map, reverse, Result}
+use Rattle.std.specs.Prelude.{ℕ, ◌+◌, ℤ, List, [], ◌++◌, map, reverse, Option, Result}
 use Rattle.pdu_fields.specs.declared.pdu.Pdu.{Pdu}
 use Rattle.rpc_session.specs.declared.fault.SessionFault.{SessionFault}
 use Rattle.rpc_session.specs.declared.client.ClientOut.{ClientOut}
@@ -10,14 +10,15 @@ use Rattle.roster.specs.Rates.{rates_of}
 use Rattle.dts_capture.specs.declared.event.Event.{Event}
 use Rattle.dts_capture.specs.declared.action.Action.{Action}
 use Rattle.sync_rules.specs.History.{History, Begun, Then, Start, number_of, event_osc}
-use Rattle.sync_rules.specs.Rounds.{Moment}
+use Rattle.clerk.specs.Outcome.{Outcome}
+use Rattle.sync_rules.specs.Rounds.{Moment, Answer as RoundAnswer}
 
 -- What the rules find in an event and no action shows. A peer is a server of the roster, by its number, or a connection that a client made.
 pub data Finding : Type 0 where
   -- a round opened: its number, its deadline, its sources in order, and the word of the tick, which queries of NTP carry
   RoundOpened : ℕ → ℕ → List ℕ → ℕ → Finding
-  -- the round ended
-  RoundEnded : Finding
+  -- the round ended: what came of it, its answers, and the node's own interval where it has one
+  RoundEnded : Outcome → List RoundAnswer → Option (ℤ × ℤ) → Finding
   -- a session with a server began: the call identifier of its bind
   SessionBegan : ℕ → ℕ → Finding
   -- a request for an operation was sent to a server, with this stub

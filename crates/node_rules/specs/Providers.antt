@@ -15,7 +15,7 @@ use Rattle.node_rules.specs.Rounds.{last_round, since_opening}
 abbrev pub deed_of : Finding → Option Deed
 deed_of (PacketTaken peer answer) = Some (Took peer answer)
 deed_of (PeerEnded peer) = Some (Went peer)
-deed_of RoundEnded = Some Stopped
+deed_of (RoundEnded outcome answers own) = Some Stopped
 deed_of _ = None
 
 -- the provider's past: it polled the roster's servers of NTP when the last round opened

@@ -27,7 +27,7 @@ opens (RoundOpened number deadline sources word) = true
 opens _ = false
 
 abbrev pub ends : Finding → Bool
-ends RoundEnded = true
+ends (RoundEnded outcome answers own) = true
 ends _ = false
 
 abbrev pub round_at : Found → Finding → Option Round
