@@ -1,0 +1,17 @@
+pub mod Courses
+pub mod Walks
+pub mod Answering
+pub mod Adopting
+pub mod Records
+pub mod Positions
+pub mod Given
+pub mod Readings
+pub mod Naming
+pub mod Anchoring
+pub mod Safe
+pub mod False
+pub mod Ranging
+pub mod Serving
+pub mod Answers
+pub mod Worlds
+pub mod Examples

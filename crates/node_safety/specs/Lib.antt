@@ -1,0 +1,4 @@
+pub mod World
+pub mod Safety
+pub mod Answers
+pub mod Laws
