@@ -1,0 +1,13 @@
+pub mod Places
+pub mod Plain
+pub mod Lookups
+pub mod Direct
+pub mod Steps
+pub mod Ending
+pub mod Asking
+pub mod Taking
+pub mod Ticking
+pub mod Lanes
+pub mod Together
+pub mod Said
+pub mod Rows
