@@ -20,7 +20,7 @@ use Rattle.node_rules.specs.Connections.{connection_of}
 use Rattle.node_rules.specs.Asking.{kind_of, is_ntp}
 use Rattle.node_rules.specs.Taking.{notes, refuses, hears, judged_note, weighs}
 use Rattle.node_rules.specs.Rules.{followed_by, ended_by, ends_peer, regressed_event, live_event, is_client}
-use Rattle.node_rules.specs.Laws.{LeavesClockAndQueries, IsNoAnswer, WhatIsWrongChangesNothing}
+use Rattle.node_rules.specs.Laws.{LeavesClockAndQueries, answer_of_datagram, IsNoAnswer, WhatIsWrongChangesNothing}
 use Rattle.node_rules.proofs.Serving.{leaves, noting, regressing}
 
 -- what a position finds more is in front of all else
@@ -119,9 +119,9 @@ weighing_none e peer history (Err failure.NoQuery) none = only_noting e history 
 weighing_none e peer history (Err (failure.Wrong refused)) none = only_noting e history (note.Refused refused)
 weighing_none e peer history (Err (failure.Judged failed)) none = only_noting e history (judged_note failed)
 
-packet : (e : Event) (peer : ℕ) (history : NodeHistory) (answer : Answer) → IsNoAnswer answer
+taken_for_none : (e : Event) (peer : ℕ) (history : NodeHistory) (answer : Answer) → IsNoAnswer answer
     → LeavesClockAndQueries history (weighs e peer (gives history (PacketTaken peer answer ∷ []) []) answer)
-packet e peer history answer none =
+taken_for_none e peer history answer none =
     let taken = gives history (PacketTaken peer answer ∷ []) [] in
     both_leave history taken (weighs e peer taken answer) (packet_taken peer history answer) (weighing_none e peer taken answer none)
 
@@ -147,6 +147,15 @@ stray_datagram before osc peer octets none = let e = event.Gram osc peer octets 
     let answer = answer_of (provider_of (roster_of before) (found_in now)) peer osc octets (near_at now osc) in
     stray_event before e (λ _. both (is_client peer) _ _ (LeavesClockAndQueries before) (λ _. stray_note before e)
     (λ _. subst (λ b. LeavesClockAndQueries before (if b then weighs e peer (gives now (PacketTaken peer answer ∷ []) []) answer else notes e now note.Stray)) (sym none) (stray_note before e)))
+
+packet : (before : NodeHistory) (osc peer : ℕ) (octets : List ℕ) → IsNoAnswer (answer_of_datagram before osc peer octets)
+    → LeavesClockAndQueries before (followed_by before (event.Gram osc peer octets))
+unfolding current_record
+packet before osc peer octets none = let e = event.Gram osc peer octets in let now = Next before e [] [] in
+    let answer = answer_of_datagram before osc peer octets in
+    stray_event before e (λ _. both (is_client peer) _ _ (LeavesClockAndQueries before) (λ _. stray_note before e)
+    (λ _. both (is_ntp (kind_of (roster_of before) peer)) _ _ (LeavesClockAndQueries before)
+    (λ _. both_leave before now _ (beginning before e) (taken_for_none e peer now answer none)) (λ _. stray_note before e)))
 
 pub what_is_wrong_changes_nothing : WhatIsWrongChangesNothing
 unfolding followed_by

@@ -3,7 +3,7 @@ use Rattle.std.specs.Prelude.{◌≡◌, ℕ, false, is_some, List, [], ◌∷�
 use Rattle.utc_value.specs.Stamp.{Stamp, IsInRange}
 use Rattle.utc_value.specs.Octets.{octets_of}
 use Rattle.time_provider.specs.declared.fault.ProviderFault.TheVariants as failure
-use Rattle.time_provider.specs.Past.{Answer}
+use Rattle.time_provider.specs.Past.{Answer, answer_of}
 use Rattle.roster.specs.RosterData.{RosterData}
 use Rattle.dts_capture.specs.declared.event.Event.{Event}
 use Rattle.dts_capture.specs.declared.event.Event.TheVariants as event
@@ -11,11 +11,12 @@ use Rattle.dts_capture.specs.declared.action.NoteKind.{NoteKind}
 use Rattle.sync_rules.specs.History.{Start, Lane, event_part, current_record}
 use Rattle.sync_rules.specs.Live.{is_live}
 use Rattle.sync_rules.specs.Rules.{extended as extended_alone}
-use Rattle.node_rules.specs.History.{PacketTaken, NodeHistory, Began, roster_of, bare, gives, found_in}
+use Rattle.node_rules.specs.History.{NodeHistory, Began, roster_of, bare, found_in}
 use Rattle.node_rules.specs.Sessions.{session_of}
 use Rattle.node_rules.specs.Rounds.{is_unanswered, answer_from}
 use Rattle.node_rules.specs.Asking.{kind_of, is_ntp}
-use Rattle.node_rules.specs.Taking.{notes, refuses, weighs}
+use Rattle.node_rules.specs.Providers.{provider_of, near_at}
+use Rattle.node_rules.specs.Taking.{notes, refuses}
 use Rattle.node_rules.specs.Using.{stamp_in}
 use Rattle.node_rules.specs.Rules.{followed_by, extended}
 
@@ -34,7 +35,12 @@ pub record LeavesClockAndQueries (before after : NodeHistory) : Type 0 where
   pub unanswered : (peer : ℕ) → is_unanswered (found_in after) peer ≡ is_unanswered (found_in before) peer
   pub answered : (peer : ℕ) → answer_from (found_in after) peer ≡ answer_from (found_in before) peer
 
--- the octets of a datagram answer no query of NTP: there is none, they are no packet, or a test of the packet fails
+-- what the octets of a datagram are to the query of NTP that its peer was asked
+abbrev pub answer_of_datagram : NodeHistory → ℕ → ℕ → List ℕ → Answer
+answer_of_datagram before osc peer octets =
+    answer_of (provider_of (roster_of before) (found_in before)) peer osc octets (near_at before osc)
+
+-- they answer none: there is none, they are no packet, or a test of the packet fails
 abbrev pub IsNoAnswer : Answer → Type 0
 IsNoAnswer (Err (failure.Range lo hi)) = ⊥
 IsNoAnswer (Err f) = Unit {0}
@@ -49,8 +55,8 @@ pub record WhatIsWrongChangesNothing : Type 0 where
   pub refused : (e : Event) (peer : ℕ) (history : NodeHistory) (why : NoteKind)
       → LeavesClockAndQueries history (refuses e peer history why)
   pub noted : (e : Event) (history : NodeHistory) (kind : NoteKind) → LeavesClockAndQueries history (notes e history kind)
-  pub packet : (e : Event) (peer : ℕ) (history : NodeHistory) (answer : Answer) → IsNoAnswer answer
-      → LeavesClockAndQueries history (weighs e peer (gives history (PacketTaken peer answer ∷ []) []) answer)
+  pub packet : (before : NodeHistory) (osc peer : ℕ) (octets : List ℕ) → IsNoAnswer (answer_of_datagram before osc peer octets)
+      → LeavesClockAndQueries before (followed_by before (event.Gram osc peer octets))
   pub stray_octets : (before : NodeHistory) (osc peer : ℕ) (octets : List ℕ) → is_some (session_of peer (found_in before)) ≡ false
       → LeavesClockAndQueries before (followed_by before (event.Stream osc peer octets))
   pub stray_datagram : (before : NodeHistory) (osc peer : ℕ) (octets : List ℕ) → is_ntp (kind_of (roster_of before) peer) ≡ false
