@@ -1,5 +1,6 @@
 pub mod Adopting
 pub mod Exclusive
+pub mod Giving
 pub mod LineFacts
 pub mod RoundBounds
 pub mod RoundLaws

@@ -30,6 +30,8 @@ use Rattle.capture_replay.specs.declared.round.DirectRound.{DirectRound}
 use Rattle.capture_replay.specs.Notes.{noted_at}
 use Rattle.capture_replay.specs.Rounds.{RoundStands, IsRoundStep}
 use Rattle.capture_replay.specs.Standing.{StandsFor, IsStep}
+use Rattle.capture_replay.specs.Taken.{HasTaken, GoesOn}
+use Rattle.capture_replay.proofs.Giving.{one_ok}
 use Rattle.capture_replay.proofs.RoundLaws.{dead_round, aside_round}
 
 -- the record of a node is sound for its rates
@@ -196,11 +198,12 @@ if_ok (Ok v) P Q p f = f v p
 if_ok (Err e) P Q p f = tt
 
 -- the step of an event at which the oscillator went back
-pub back_ok : (node : Node) (e : Event) (back : Action) (r : Result (Unit {0}) NoMemory) (actions : List Action) → event_part e ≡ Sync → IsEventInRange e → event_peer e ≡ None → closes e ≡ []
-    → (event_osc e < node.sync_osc) × (back ≡ noted_at (event_osc e) (note.Regressed node.sync_osc)) → OnOk r (actions ≡ back ∷ [])
-    → OnOk r (IsStep node node e actions)
-back_ok node e back r actions sync range alone none is found =
-    if_ok r _ _ found (λ _ has. subst (IsStep node node e) (sym (has ∙ ap (λ a. a ∷ []) is.1)) (back_step node e sync range is.0 alone none))
+pub back_ok : {T : Type 0} (took : T → List Action → Type 0) (before after : T) (node : Node) (e : Event) (back : Action) (r : Result (Unit {0}) NoMemory)
+    → event_part e ≡ Sync → IsEventInRange e → event_peer e ≡ None → closes e ≡ []
+    → (event_osc e < node.sync_osc) × (back ≡ noted_at (event_osc e) (note.Regressed node.sync_osc)) → OnOk r (GoesOn took before after (back ∷ []))
+    → OnOk r (HasTaken took before after (IsStep node node e))
+back_ok took before after node e back r sync range alone none is found =
+    one_ok took before after r back _ (IsStep node node e) found is.1 (back_step node e sync range is.0 alone none)
 
 -- ---- reads
 floor_same : (node : Node) (h : History) (osc : ℕ) → StandsFor node h → floor_at (Lane 0) node.lane_osc node.current ≡ floor_of h (event.Read osc)

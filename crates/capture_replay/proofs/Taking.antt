@@ -182,10 +182,6 @@ pub if_err : {T E : Type 0} (r : Result T E) (P Q : E → Type 0) → IfErr r P 
 if_err (Ok v) P Q p f = tt
 if_err (Err e) P Q p f = f e p
 
--- nothing stood in front
-pub alone : (out front rest : List ℕ) → out ≡ front ++ rest → front ≡ [] → out ≡ rest
-alone out front rest is empty = is ∙ ap (λ xs. xs ++ rest) empty
-
 pub always : {T E : Type 0} (r : Result T E) (A : Type 0) → A → OnOk r A
 always (Ok v) A a = a
 always (Err e) A a = tt

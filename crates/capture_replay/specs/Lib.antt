@@ -4,5 +4,6 @@ pub mod Rounds
 pub mod SafeLogs
 pub mod Standing
 pub mod Steps
+pub mod Taken
 pub mod Unread
 pub mod Written

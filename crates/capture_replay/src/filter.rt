@@ -13,11 +13,9 @@ ghost use Rattle.capture_replay.specs.Standing.{StandsFor};
 ghost use Rattle.capture_replay.specs.Unread.{IsUnread};
 ghost use Rattle.capture_replay.specs.Capture.{Replayed, unstarted, capture, is_built, SaysStart, IsMisplaced, at_first};
 
-use crate::{CaptureFault, Node};
+use crate::{ActionTaker, CaptureFault, Node};
 use dts_base::Interval;
-use dts_capture::{
-    Action, Event, Line, LineCause, LineFault, append_action, is_blank, parse_line, parse_line_at,
-};
+use dts_capture::{Event, Line, LineCause, LineFault, is_blank, parse_line, parse_line_at};
 use line_filter::{LineFilter, Unfit};
 use line_reader::{Fields, MAX_LINE};
 use slew_clock::Rates;
@@ -60,7 +58,7 @@ impl Replay {
         }
     }
 
-    // Starts the node, and puts the text of its first record at the end of the log.
+    // Starts the node, and puts the text of its first record into the log.
     fn start(
         &mut self,
         alloc: Global,
@@ -69,20 +67,23 @@ impl Replay {
         first: Option<Interval>,
         log: &mut Vec<u8>,
     ) -> Result<(), Unfit<CaptureFault>>
-        requires { StartsInRange (record { osc = osc; value = value; first = first }) }
+        requires range { StartsInRange (record { osc = osc; value = value; first = first }) }
+        requires empty { log.old.items ≡ [] }
         ensures rates { self.new.rates ≡ self.old.rates }
         ensures number { OnOk result (latest self.new.node ≡ 0) }
         ensures started { OnOk result (NodeStands self.new.node (Some (Begun (record { rates = self.old.rates }) (record { osc = osc; value = value; first = first })))) }
         ensures memory { IfErr result (λ e. e ≡ Unfit.NoMemory) }
-        ensures log { OnOk result (log.new.items ≡ log.old.items ++ flat_map log_text (given_at (Begun (record { rates = self.old.rates }) (record { osc = osc; value = value; first = first })))) }
+        ensures log { OnOk result (log.new.items ≡ flat_map log_text (given_at (Begun (record { rates = self.old.rates }) (record { osc = osc; value = value; first = first })))) }
     {
         let (node, action) = Node::start(alloc, self.rates, osc, value, first);
-        put(alloc, log, &action)?;
+        let Ok(()) = log.take(alloc, action) else {
+            return Err(Unfit::NoMemory);
+        };
         self.node = Some(node);
         Ok(())
     }
 
-    // Takes an event behind the start, and puts the text of what it gives at the end of the log.
+    // Takes an event behind the start, and puts the text of what it gives into the log.
     fn step(
         &mut self,
         alloc: Global,
@@ -92,11 +93,12 @@ impl Replay {
         requires stands { (history : History) × NodeStands self.old.node (Some history) }
         requires range { IsEventInRange event }
         requires number { latest self.old.node < u64.MAX }
+        requires empty { log.old.items ≡ [] }
         ensures rates { self.new.rates ≡ self.old.rates }
         ensures number { latest self.new.node ≤ latest self.old.node + 1 }
         ensures built { OnOk result (is_built event ≡ true) }
         ensures stands { OnOk result ((history : History) → NodeStands self.old.node (Some history) → NodeStands self.new.node (Some (followed_by history event))) }
-        ensures log { OnOk result ((history : History) → NodeStands self.old.node (Some history) → log.new.items ≡ log.old.items ++ flat_map log_text (actions_of history event)) }
+        ensures log { OnOk result ((history : History) → NodeStands self.old.node (Some history) → log.new.items ≡ flat_map log_text (actions_of history event)) }
         ensures unbuilt { IfErr result (λ e. (e ≡ Unfit.NoMemory) ⊎ ((e ≡ Unfit.Refused (at_first cause.Word)) × (is_built event ≡ false))) }
     {
         match &mut self.node {
@@ -106,7 +108,7 @@ impl Replay {
     }
 }
 
-// A node takes an event, and the text of what it gives goes to the end of the log.
+// A node takes an event, and the text of what it gives goes into the log.
 fn take_event(
     alloc: Global,
     node: &mut Node,
@@ -116,20 +118,20 @@ fn take_event(
     requires stands { (history : History) × StandsFor node.old history }
     requires range { IsEventInRange event }
     requires number { node.old.current.number < u64.MAX }
+    requires empty { log.old.items ≡ [] }
     ensures number { node.new.current.number ≤ node.old.current.number + 1 }
     ensures built { OnOk result (is_built event ≡ true) }
     ensures stands { OnOk result ((history : History) → StandsFor node.old history → StandsFor node.new (followed_by history event)) }
-    ensures log { OnOk result ((history : History) → StandsFor node.old history → log.new.items ≡ log.old.items ++ flat_map log_text (actions_of history event)) }
+    ensures log { OnOk result ((history : History) → StandsFor node.old history → log.new.items ≡ flat_map log_text (actions_of history event)) }
     ensures unbuilt { IfErr result (λ e. (e ≡ Unfit.NoMemory) ⊎ ((e ≡ Unfit.Refused (at_first cause.Word)) × (is_built event ≡ false))) }
 {
     if !is_built(&event) {
         return Err(Unfit::Refused(CaptureFault::at_first(LineCause::Word)));
     }
-    let mut actions = Vec::new(alloc);
-    let Ok(()) = node.step(alloc, event, &mut actions) else {
+    let Ok(()) = node.step(alloc, event, log) else {
         return Err(Unfit::NoMemory);
     };
-    put_all(alloc, log, &actions)
+    Ok(())
 }
 
 // Whether events of this kind are replayed.
@@ -201,25 +203,6 @@ fn unread(fault: LineFault) -> Unfit<CaptureFault>
         LineFault::Wrong { column, cause } => Unfit::Refused(CaptureFault { column, cause }),
         LineFault::NoMemory => Unfit::NoMemory,
     }
-}
-
-// Puts the text of an action at the end of the log.
-fn put(alloc: Global, log: &mut Vec<u8>, action: &Action) -> Result<(), Unfit<CaptureFault>>
-    ensures text { OnOk result (log.new.items ≡ log.old.items ++ log_text action.now) }
-    ensures memory { IfErr result (λ e. e ≡ Unfit.NoMemory) }
-{
-    append_action(alloc, log, action).map_err(|_| Unfit::NoMemory)
-}
-
-// Puts the texts of actions at the end of the log, in order.
-fn put_all(alloc: Global, log: &mut Vec<u8>, actions: &[Action]) -> Result<(), Unfit<CaptureFault>>
-    ensures text { OnOk result (log.new.items ≡ log.old.items ++ flat_map log_text actions.now) }
-    ensures memory { IfErr result (λ e. e ≡ Unfit.NoMemory) }
-{
-    for action in actions {
-        put(alloc, log, action)?;
-    }
-    Ok(())
 }
 
 // Whether the first word of the line is `start`.

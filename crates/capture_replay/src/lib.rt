@@ -9,6 +9,7 @@ mod laws;
 mod node;
 mod notes;
 mod round;
+mod taker;
 
 pub use fault::CaptureFault;
 pub use filter::Replay;
@@ -18,3 +19,4 @@ pub use laws::{
     one_log_of_a_capture,
 };
 pub use node::Node;
+pub use taker::ActionTaker;

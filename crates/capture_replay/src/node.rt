@@ -10,8 +10,10 @@ ghost use Rattle.sync_rules.specs.History.{History, Begun, published};
 ghost use Rattle.clerk.specs.Outcome.{Adopted};
 ghost use Rattle.sync_rules.specs.Ranges.{IsTime, IsEventInRange, StartsInRange};
 ghost use Rattle.capture_replay.specs.Notes.{noted_at};
+ghost use Rattle.capture_replay.specs.Taken.{HasTaken, GoesOn};
 
-use crate::notes::{note, single};
+use crate::ActionTaker;
+use crate::notes::note;
 use crate::round::{DirectOutcome, DirectRound};
 use dts_base::{Interval, NoMemory};
 use dts_capture::{Action, Event, NoteKind};
@@ -85,50 +87,54 @@ impl Node {
         self.current.number
     }
 
-    /// Takes an event, and puts the actions of the rules, in order, in the place of all that a list holds. After NoMemory
-    /// the node is as it was.
-    pub fn step(
+    /// Takes an event, and gives the actions of the rules, in order. After NoMemory the node is as it was.
+    pub fn step<T: ActionTaker>(
         &mut self,
         alloc: Global,
         event: Event,
-        actions: &mut Vec<Action>,
+        taker: &mut T,
     ) -> Result<(), NoMemory>
         requires stands { (history : History) × StandsFor self.old history }
         requires range { IsEventInRange event }
         requires built { is_built event ≡ true }
         requires number { self.old.current.number < u64.MAX }
-        ensures step { OnOk result (IsStep self.old self.new event actions.new.items) }
+        ensures step { OnOk result (HasTaken T.took taker.old taker.new (IsStep self.old self.new event)) }
         ensures kept { OnErr result (IsKept self.old self.new) }
         ensures number { self.new.current.number ≤ self.old.current.number + 1 }
     {
-        actions.clear();
         match event {
-            Event::Tick { osc, .. } => self.take_tick(osc, actions),
-            Event::Read { osc } => self.take_read(osc, actions),
-            Event::Query { osc, tag } => self.take_query(osc, tag, actions),
-            Event::Source { osc, tag, interval } => self.take_source(osc, tag, interval, actions),
-            Event::Adopt { osc, required } => self.take_adopt(alloc, osc, required, actions),
+            Event::Tick { osc, .. } => self.take_tick(alloc, osc, taker),
+            Event::Read { osc } => self.take_read(alloc, osc, taker),
+            Event::Query { osc, tag } => self.take_query(alloc, osc, tag, taker),
+            Event::Source { osc, tag, interval } => self.take_source(
+                alloc, osc, tag, interval, taker,
+            ),
+            Event::Adopt { osc, required } => self.take_adopt(alloc, osc, required, taker),
             _ => unreachable!(),
         }
     }
 
     // Takes a read of the clock at an oscillator reading.
-    fn take_read(&mut self, osc: u64, actions: &mut Vec<Action>) -> Result<(), NoMemory>
+    fn take_read<T: ActionTaker>(
+        &mut self,
+        alloc: Global,
+        osc: u64,
+        taker: &mut T,
+    ) -> Result<(), NoMemory>
         requires stands { (history : History) × StandsFor self.old history }
         requires osc { osc ≤ GREATEST_OSC }
-        requires empty { actions.old.items ≡ [] }
-        ensures step { OnOk result (IsStep self.old self.new (event.Read osc) actions.new.items) }
+        ensures step { OnOk result (HasTaken T.took taker.old taker.new (IsStep self.old self.new (event.Read osc))) }
         ensures kept { OnErr result (self.new ≡ self.old) }
         ensures number { self.new.current ≡ self.old.current }
     {
         let floor = self.lane_osc.max(self.current.born);
         if osc < floor {
-            return single(actions, note(osc, NoteKind::Regressed { floor }));
+            return taker.take(alloc, note(osc, NoteKind::Regressed { floor }));
         }
         let Ok(reading) = read_at(&self.rates, &self.current, osc) else {
             unreachable!()
         };
-        single(actions, note(osc, reading_note(&reading)))?;
+        taker.take(alloc, note(osc, reading_note(&reading)))?;
         self.lane_osc = osc;
         Ok(())
     }
@@ -145,99 +151,108 @@ impl Node {
     }
 
     // Takes a tick at an oscillator reading: renews the clock where that is due, and publishes the record.
-    fn take_tick(&mut self, osc: u64, actions: &mut Vec<Action>) -> Result<(), NoMemory>
+    fn take_tick<T: ActionTaker>(
+        &mut self,
+        alloc: Global,
+        osc: u64,
+        taker: &mut T,
+    ) -> Result<(), NoMemory>
         requires stands { (history : History) × StandsFor self.old history }
         requires osc { osc ≤ GREATEST_OSC }
         requires number { self.old.current.number < u64.MAX }
-        requires empty { actions.old.items ≡ [] }
-        ensures step { OnOk result ((word : ℕ) → IsStep self.old self.new (event.Tick osc word) actions.new.items) }
+        ensures step { OnOk result ((word : ℕ) → HasTaken T.took taker.old taker.new (IsStep self.old self.new (event.Tick osc word))) }
         ensures kept { OnErr result (self.new ≡ self.old) }
         ensures number { self.new.current.number ≤ self.old.current.number + 1 }
     {
         if let Some(back) = self.regressed(osc) {
-            return single(actions, back);
+            return taker.take(alloc, back);
         }
         let Some(rec) = renewed(&self.rates, &self.current, osc) else {
             self.sync_osc = osc;
             return Ok(());
         };
-        single(actions, Action::Publish { rec })?;
+        taker.take(alloc, Action::Publish { rec })?;
         self.sync_osc = osc;
         self.current = rec;
         Ok(())
     }
 
     // Takes the asking of a tag of a direct round at an oscillator reading.
-    fn take_query(&mut self, osc: u64, tag: u32, actions: &mut Vec<Action>) -> Result<(), NoMemory>
+    fn take_query<T: ActionTaker>(
+        &mut self,
+        alloc: Global,
+        osc: u64,
+        tag: u32,
+        taker: &mut T,
+    ) -> Result<(), NoMemory>
         requires osc { osc ≤ GREATEST_OSC }
-        requires empty { actions.old.items ≡ [] }
-        ensures step { OnOk result (IsStep self.old self.new (event.Query osc tag) actions.new.items) }
+        ensures step { OnOk result (HasTaken T.took taker.old taker.new (IsStep self.old self.new (event.Query osc tag))) }
         ensures kept { OnErr result (IsKept self.old self.new) }
         ensures number { self.new.current ≡ self.old.current }
     {
         if let Some(back) = self.regressed(osc) {
-            return single(actions, back);
+            return taker.take(alloc, back);
         }
-        self.round.take_query(osc, tag, actions)?;
+        self.round.take_query(alloc, osc, tag, taker)?;
         self.sync_osc = osc;
         Ok(())
     }
 
     // Takes the answer to a tag of a direct round at an oscillator reading.
-    fn take_source(
+    fn take_source<T: ActionTaker>(
         &mut self,
+        alloc: Global,
         osc: u64,
         tag: u32,
         interval: Interval,
-        actions: &mut Vec<Action>,
+        taker: &mut T,
     ) -> Result<(), NoMemory>
         requires osc { osc ≤ GREATEST_OSC }
         requires ends { IsTime interval.lo × IsTime interval.hi }
-        requires empty { actions.old.items ≡ [] }
-        ensures step { OnOk result (IsStep self.old self.new (event.Source osc tag interval) actions.new.items) }
+        ensures step { OnOk result (HasTaken T.took taker.old taker.new (IsStep self.old self.new (event.Source osc tag interval))) }
         ensures kept { OnErr result (IsKept self.old self.new) }
         ensures number { self.new.current ≡ self.old.current }
     {
         if let Some(back) = self.regressed(osc) {
-            return single(actions, back);
+            return taker.take(alloc, back);
         }
-        self.round.take_source(osc, tag, interval, actions)?;
+        self.round.take_source(alloc, osc, tag, interval, taker)?;
         self.sync_osc = osc;
         Ok(())
     }
 
     // Takes the end of a direct round at an oscillator reading, where so many answers are required.
-    fn take_adopt(
+    fn take_adopt<T: ActionTaker>(
         &mut self,
         alloc: Global,
         osc: u64,
         required: u32,
-        actions: &mut Vec<Action>,
+        taker: &mut T,
     ) -> Result<(), NoMemory>
         requires stands { (history : History) × StandsFor self.old history }
         requires osc { osc ≤ GREATEST_OSC }
         requires number { self.old.current.number < u64.MAX }
-        requires empty { actions.old.items ≡ [] }
-        ensures step { OnOk result (IsStep self.old self.new (event.Adopt osc required) actions.new.items) }
+        ensures step { OnOk result (HasTaken T.took taker.old taker.new (IsStep self.old self.new (event.Adopt osc required))) }
         ensures kept { OnErr result (self.new ≡ self.old) }
         ensures number { self.new.current.number ≤ self.old.current.number + 1 }
     {
         if let Some(back) = self.regressed(osc) {
-            return single(actions, back);
+            return taker.take(alloc, back);
         }
         let outcome = self.round.outcome(alloc, &self.rates, required, osc)?;
-        self.conclude(osc, outcome, actions)?;
+        self.conclude(alloc, osc, outcome, taker)?;
         self.round.clear();
         self.sync_osc = osc;
         Ok(())
     }
 
     // Gives what comes of a round, and changes the clock where an interval is adopted.
-    fn conclude(
+    fn conclude<T: ActionTaker>(
         &mut self,
+        alloc: Global,
         osc: u64,
         outcome: DirectOutcome,
-        actions: &mut Vec<Action>,
+        taker: &mut T,
     ) -> Result<(), NoMemory>
         requires sound { IsSound self.old.rates self.old.current }
         requires born { self.old.current.born ≤ osc }
@@ -245,28 +260,28 @@ impl Node {
         requires number { self.old.current.number < u64.MAX }
         requires adoptable { IsAdoptable outcome }
         requires carriable { AreCarriable osc self.old.round }
-        requires empty { actions.old.items ≡ [] }
-        ensures state { OnOk result (self.new ≡ record self.old { current = published self.old.current actions.new.items }) }
-        ensures actions { OnOk result (actions.new.items ≡ concluded self.old osc (outcome_kept outcome)) }
+        ensures state { OnOk result (self.new ≡ record self.old { current = published self.old.current (concluded self.old osc (outcome_kept outcome)) }) }
+        ensures actions { OnOk result (GoesOn T.took taker.old taker.new (concluded self.old osc (outcome_kept outcome))) }
         ensures kept { OnErr result (self.new ≡ self.old) }
         ensures number { self.new.current.number ≤ self.old.current.number + 1 }
     {
         match outcome {
             DirectOutcome::Short { answered, required } => {
-                single(actions, note(osc, NoteKind::Short { answered, required }))
+                taker.take(alloc, note(osc, NoteKind::Short { answered, required }))
             }
-            DirectOutcome::Split { n } => single(actions, note(osc, NoteKind::Split { n })),
-            DirectOutcome::Adopted { n, interval } => self.adopt(osc, n, interval, actions),
+            DirectOutcome::Split { n } => taker.take(alloc, note(osc, NoteKind::Split { n })),
+            DirectOutcome::Adopted { n, interval } => self.adopt(alloc, osc, n, interval, taker),
         }
     }
 
     // Anchors the clock to an interval that so many answers gave, or steps to it.
-    fn adopt(
+    fn adopt<T: ActionTaker>(
         &mut self,
+        alloc: Global,
         osc: u64,
         n: u32,
         interval: Interval,
-        actions: &mut Vec<Action>,
+        taker: &mut T,
     ) -> Result<(), NoMemory>
         requires sound { IsSound self.old.rates self.old.current }
         requires born { self.old.current.born ≤ osc }
@@ -274,21 +289,21 @@ impl Node {
         requires number { self.old.current.number < u64.MAX }
         requires range { IsInRange (ends_of interval) }
         requires carriable { AreCarriable osc self.old.round }
-        requires empty { actions.old.items ≡ [] }
         ensures kept { OnErr result (self.new ≡ self.old) }
-        ensures state { OnOk result (self.new ≡ record self.old { current = published self.old.current actions.new.items }) }
-        ensures actions { OnOk result (actions.new.items ≡ concluded self.old osc (Adopted n (ends_of interval))) }
+        ensures state { OnOk result (self.new ≡ record self.old { current = published self.old.current (concluded self.old osc (Adopted n (ends_of interval))) }) }
+        ensures actions { OnOk result (GoesOn T.took taker.old taker.new (concluded self.old osc (Adopted n (ends_of interval)))) }
         ensures number { self.new.current.number ≤ self.old.current.number + 1 }
     {
         let Ok(next) = changed(&self.rates, &self.current, osc, interval) else {
             unreachable!()
         };
-        single(actions, adopted_note(osc, n, interval))?;
-        self.round.note_false(&self.rates, osc, &interval, actions)?;
+        taker.take(alloc, adopted_note(osc, n, interval))?;
+        self.round
+            .note_false(alloc, &self.rates, osc, &interval, taker)?;
         if next.step != self.current.step {
-            actions.push(self.step_note(osc, &next))?;
+            taker.take(alloc, self.step_note(osc, &next))?;
         }
-        actions.push(Action::Publish { rec: next })?;
+        taker.take(alloc, Action::Publish { rec: next })?;
         self.current = next;
         Ok(())
     }

@@ -1,14 +1,16 @@
-ghost use Rattle.std.specs.Prelude.{◌≡◌, ◌≤◌, ◌==◌, nat_le, [], ◌++◌, length, find, map, option_map, IfOk, OnOk, OnErr};
+ghost use Rattle.std.specs.Prelude.{◌≡◌, ◌≤◌, ◌==◌, nat_le, [], length, find, map, option_map, IfOk, OnOk, OnErr};
 ghost use Rattle.std.specs.List.{list_any};
 ghost use Rattle.slew_clock.specs.declared.limits.TheConstants.{GREATEST_OSC};
 ghost use Rattle.dts_capture.specs.declared.event.Event.TheVariants as event;
 ghost use Rattle.dts_capture.specs.Grammar.{most_tags};
 ghost use Rattle.intersection.specs.Adoption.{ends_of};
 ghost use Rattle.sync_rules.specs.Rounds.{are_apart, carried_to, outcome};
+ghost use Rattle.capture_replay.specs.Taken.{HasTaken, GoesOn};
 
-use crate::notes::{note, single};
+use crate::ActionTaker;
+use crate::notes::note;
 use dts_base::{Interval, NoMemory};
-use dts_capture::{Action, FalseSource, MAX_TAGS, NoteKind};
+use dts_capture::{FalseSource, MAX_TAGS, NoteKind};
 use intersection::{adopt, is_false};
 use slew_clock::{Rates, carried};
 use std::alloc::Global;
@@ -129,41 +131,41 @@ impl DirectRound {
         asked.map(|asked| asked.osc)
     }
 
-    /// Takes the asking of a tag at an oscillator reading, and puts the actions of the rules into an empty list.
-    pub fn take_query(
+    /// Takes the asking of a tag at an oscillator reading, and gives the actions of the rules.
+    pub fn take_query<T: ActionTaker>(
         &mut self,
+        alloc: Global,
         osc: u64,
         tag: u32,
-        actions: &mut Vec<Action>,
+        taker: &mut T,
     ) -> Result<(), NoMemory>
-        requires { actions.old.items ≡ [] }
-        ensures step { OnOk result (IsRoundStep self.old self.new (event.Query osc tag) actions.new.items) }
+        ensures step { OnOk result (HasTaken T.took taker.old taker.new (IsRoundStep self.old self.new (event.Query osc tag))) }
         ensures kept { OnErr result (IsRoundKept self.old self.new) }
     {
         if self.is_asked(tag) {
-            return single(actions, note(osc, NoteKind::RepeatedTag { tag }));
+            return taker.take(alloc, note(osc, NoteKind::RepeatedTag { tag }));
         }
         if self.is_full() {
-            return single(actions, note(osc, NoteKind::TagsFull));
+            return taker.take(alloc, note(osc, NoteKind::TagsFull));
         }
         self.asked.push(AskedTag { tag, osc })?;
         Ok(())
     }
 
-    /// Takes the answer to a tag at an oscillator reading, and puts the actions of the rules into an empty list.
-    pub fn take_source(
+    /// Takes the answer to a tag at an oscillator reading, and gives the actions of the rules.
+    pub fn take_source<T: ActionTaker>(
         &mut self,
+        alloc: Global,
         osc: u64,
         tag: u32,
         interval: Interval,
-        actions: &mut Vec<Action>,
+        taker: &mut T,
     ) -> Result<(), NoMemory>
-        requires { actions.old.items ≡ [] }
-        ensures step { OnOk result (IsRoundStep self.old self.new (event.Source osc tag interval) actions.new.items) }
+        ensures step { OnOk result (HasTaken T.took taker.old taker.new (IsRoundStep self.old self.new (event.Source osc tag interval))) }
         ensures kept { OnErr result (IsRoundKept self.old self.new) }
     {
         let Some(asked) = self.open_since(tag) else {
-            return single(actions, note(osc, NoteKind::UnknownTag { tag }));
+            return taker.take(alloc, note(osc, NoteKind::UnknownTag { tag }));
         };
         self.answers.push(TagAnswer {
             tag,
@@ -214,22 +216,26 @@ impl DirectRound {
         Ok(carried)
     }
 
-    /// Puts a note for each answer that, carried on to an oscillator reading, has no point in common with an interval,
-    /// at the end of a list, in the order of the answers.
-    pub fn note_false(
+    /// Gives a note for each answer that, carried on to an oscillator reading, has no point in common with an interval,
+    /// in the order of the answers.
+    pub fn note_false<T: ActionTaker>(
         &self,
+        alloc: Global,
         rates: &Rates,
         osc: u64,
         adopted: &Interval,
-        actions: &mut Vec<Action>,
+        taker: &mut T,
     ) -> Result<(), NoMemory>
         requires carriable { AreCarriable osc self.now }
         requires osc { osc ≤ GREATEST_OSC }
-        ensures { OnOk result (actions.new.items ≡ actions.old.items ++ false_notes rates.now osc (ends_of adopted.now) self.now.answers.items) }
+        ensures { OnOk result (GoesOn T.took taker.old taker.new (false_notes rates.now osc (ends_of adopted.now) self.now.answers.items)) }
     {
         for answer in &self.answers {
             if answer.is_false(rates, osc, adopted) {
-                actions.push(note(osc, NoteKind::False(FalseSource::Tag(answer.tag))))?;
+                taker.take(
+                    alloc,
+                    note(osc, NoteKind::False(FalseSource::Tag(answer.tag))),
+                )?;
             }
         }
         Ok(())

@@ -1,6 +1,8 @@
 -- How counts grow.
-use Rattle.std.specs.Prelude.{ℕ, ◌+◌, ◌-◌, ◌^◌, ◌≤◌}
+use Rattle.std.specs.Prelude.{◌≡◌, ◌+◌, ◌-◌, ◌^◌, ◌<◌, List, length}
+use Rattle.dts_capture.specs.declared.action.Action.{Action}
 use Rattle.event_drill.specs.declared.counts.Counts.{Counts}
+use Rattle.event_drill.specs.Summary.{counts_of}
 
 abbrev pub plus : Counts → Counts → Counts
 plus a b = record {
@@ -14,13 +16,17 @@ plus a b = record {
   false_sources = a.false_sources + b.false_sources;
 }
 
--- so many lines more can be counted, of whatever kind
-pub record HasRoom (more : ℕ) (c : Counts) : Type 0 where
-  pub records : c.records + more ≤ 2 ^ 64 - 1
-  pub steps : c.steps + more ≤ 2 ^ 64 - 1
-  pub readings : c.readings + more ≤ 2 ^ 64 - 1
-  pub unspecified : c.unspecified + more ≤ 2 ^ 64 - 1
-  pub adopted : c.adopted + more ≤ 2 ^ 64 - 1
-  pub split : c.split + more ≤ 2 ^ 64 - 1
-  pub short : c.short + more ≤ 2 ^ 64 - 1
-  pub false_sources : c.false_sources + more ≤ 2 ^ 64 - 1
+-- one line more can be counted, of whatever kind
+pub record HasRoom (c : Counts) : Type 0 where
+  pub records : c.records < 2 ^ 64 - 1
+  pub steps : c.steps < 2 ^ 64 - 1
+  pub readings : c.readings < 2 ^ 64 - 1
+  pub unspecified : c.unspecified < 2 ^ 64 - 1
+  pub adopted : c.adopted < 2 ^ 64 - 1
+  pub split : c.split < 2 ^ 64 - 1
+  pub short : c.short < 2 ^ 64 - 1
+  pub false_sources : c.false_sources < 2 ^ 64 - 1
+
+-- these are the counts of the actions, where these are not more than can be counted
+abbrev pub HasCounted : Counts → List Action → Type 0
+HasCounted counts actions = length actions < 2 ^ 64 → counts ≡ counts_of actions

@@ -1,7 +1,8 @@
-ghost use Rattle.std.specs.Prelude.{◌≡◌, ℕ, Option, ◌∷◌, [], ◌++◌, length, IfOk, OnOk};
+ghost use Rattle.std.specs.Prelude.{◌≡◌, ◌+◌, ◌<◌, ℕ, Option, ◌∷◌, [], ◌++◌, IfOk, OnOk};
 ghost use Rattle.event_drill.specs.Summary.{counts_of, named, summary_text};
-ghost use Rattle.event_drill.specs.Counting.{plus, HasRoom};
+ghost use Rattle.event_drill.specs.Counting.{plus, HasRoom, HasCounted};
 
+use capture_replay::ActionTaker;
 use dts_base::{NoMemory, Text};
 use dts_capture::{Action, NoteKind};
 use itoa::Buffer;
@@ -47,44 +48,32 @@ impl Counts {
 
     /// Counts the line of an action.
     pub fn count(&mut self, action: &Action)
-        requires { HasRoom 1 self.old }
-        ensures { self.new ≡ plus self.old (counts_of (action.now ∷ [])) }
+        ensures { HasRoom self.old → self.new ≡ plus self.old (counts_of (action.now ∷ [])) }
     {
         match action {
-            Action::Publish { .. } => self.records += 1,
+            Action::Publish { .. } => one_more(&mut self.records),
             Action::Log(note) => self.count_note(&note.kind),
             _ => (),
         }
     }
 
     fn count_note(&mut self, kind: &NoteKind)
-        requires { HasRoom 1 self.old }
-        ensures { (osc : ℕ) (peer : Option ℕ) →
+        ensures { (osc : ℕ) (peer : Option ℕ) → HasRoom self.old →
             self.new ≡ plus self.old (counts_of (Action.Log (record { osc = osc; peer = peer; kind = kind.now }) ∷ [])) }
     {
         match kind {
-            NoteKind::Step { .. } => self.steps += 1,
+            NoteKind::Step { .. } => one_more(&mut self.steps),
             NoteKind::Reading { inaccuracy, .. } => {
-                self.readings += 1;
+                one_more(&mut self.readings);
                 if inaccuracy.is_none() {
-                    self.unspecified += 1;
+                    one_more(&mut self.unspecified);
                 }
             }
-            NoteKind::Adopted { .. } => self.adopted += 1,
-            NoteKind::Split { .. } => self.split += 1,
-            NoteKind::Short { .. } => self.short += 1,
-            NoteKind::False(_) => self.false_sources += 1,
+            NoteKind::Adopted { .. } => one_more(&mut self.adopted),
+            NoteKind::Split { .. } => one_more(&mut self.split),
+            NoteKind::Short { .. } => one_more(&mut self.short),
+            NoteKind::False(_) => one_more(&mut self.false_sources),
             _ => (),
-        }
-    }
-
-    /// Counts the lines of actions.
-    pub fn count_all(&mut self, actions: &[Action])
-        requires { HasRoom (length actions.now) self.old }
-        ensures { self.new ≡ plus self.old (counts_of actions.now) }
-    {
-        for action in actions {
-            self.count(action);
         }
     }
 
@@ -106,6 +95,23 @@ impl Counts {
         line.push(b'\n')?;
         Ok(Text::from_vec(line))
     }
+}
+
+/// Counts actions, right while they are fewer than 2^64.
+impl ActionTaker for Counts {
+    ghost took = { HasCounted };
+
+    fn take(&mut self, _alloc: Global, action: Action) -> Result<(), NoMemory> {
+        self.count(&action);
+        Ok(())
+    }
+}
+
+// One more is counted. Behind the greatest count comes 0.
+fn one_more(count: &mut u64)
+    ensures { count.old < u64.MAX → count.new ≡ count.old + 1 }
+{
+    *count = count.wrapping_add(1);
 }
 
 // Adds a name and a number to a line, each behind a space.

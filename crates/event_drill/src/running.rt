@@ -11,17 +11,14 @@ use crate::maker::interval_around;
 use crate::{Counts, MAX_EVENTS, Maker, START_ERROR, START_VALUE};
 use capture_replay::Node;
 use dts_base::NoMemory;
-use dts_capture::Action;
 use slew_clock::Rates;
 use std::alloc::Global;
 
-/// A drill under way: what makes its events, the node that takes them, the actions of the last one, and the counts of the
-/// log so far.
+/// A drill under way: what makes its events, the node that takes them, and the counts of the log so far.
 #[derive(Debug, Drop)]
 pub struct Run {
     maker: Maker,
     node: Node,
-    actions: Vec<Action>,
     counts: Counts,
 }
 
@@ -43,7 +40,6 @@ impl Run {
         Run {
             maker: Maker::new(seed),
             node,
-            actions: Vec::new(alloc),
             counts,
         }
     }
@@ -56,9 +52,7 @@ impl Run {
         ensures maker { self.new.maker ≡ (made self.old.maker).next }
     {
         let event = self.maker.next_event();
-        self.node.step(alloc, event, &mut self.actions)?;
-        self.counts.count_all(&self.actions);
-        Ok(())
+        self.node.step(alloc, event, &mut self.counts)
     }
 }
 

@@ -5,7 +5,7 @@ use Rattle.dts_capture.specs.declared.line.Line.TheVariants as line
 use Rattle.dts_capture.specs.Spelling.{Spells}
 use Rattle.sync_rules.specs.Ranges.{StartsInRange}
 use Rattle.capture_replay.specs.Steps.{number_at}
-use Rattle.capture_replay.proofs.Taking.{unread_unfit, said_start, said_event, blank_takes, start_takes, event_takes, unbuilt_unfit, on_ok, both_ok, if_err, alone}
+use Rattle.capture_replay.proofs.Taking.{unread_unfit, said_start, said_event, blank_takes, start_takes, event_takes, unbuilt_unfit, on_ok, both_ok, if_err}
 use Rattle.capture_replay.proofs.filter.ReplayLineFilter.take.Goals as goal
 
 pub returns-in_err-read_line-clause-unfit : goal.returns-in_err-read_line-clause-unfit
@@ -13,8 +13,8 @@ returns-in_err-read_line-clause-unfit c =
     let p = err_from_is_err_and c.from_residual.result c.from_residual.ensures.1 in
     rw (p.1, p.2) (λ state stands. unread_unfit c.args.self.now c.args._before state c.args.line.now c.in_err-read_line.field-0.0 stands (c.if-is_misplaced.ensures state.history stands.node) c.in_err-read_line.ensures)
 
-pub start-requires : goal.start-requires
-start-requires c =
+pub start-requires-clause-range : goal.start-requires-clause-range
+start-requires-clause-range c =
     let state = c.requires.stands.0 in
     let stands = c.requires.stands.1 in
     let fits = said_start c.args.self.now c.args._before state c.args.line.now c.in_ok-read_line.field-0 c.in-Start.osc c.in-Start.value c.in-Start.first stands
@@ -45,7 +45,7 @@ returns-in-Start-clause-taken c =
     let same : value ≡ c.in-Start.value = to_z-of_z w64 c.in-Start.value (record { sfits = omega (arith, ints, fits.value) }) in
     start_takes c.args.self.now c.start.new.self c.args._before state c.args.line.now c.start.new.log.items c.in-Start.osc value c.in-Start.first stands placed
     (subst (λ v. Spells (number_at c.args.self.now.node) c.args.line.now (line.Start c.in-Start.osc v c.in-Start.first)) (sym same) said)
-    c.start.ensures.rates made.1.0 made.0 (alone _ _ _ made.1.1 c.requires.empty))
+    c.start.ensures.rates made.1.0 made.0 made.1.1)
 
 pub returns-in-Event-clause-taken : goal.returns-in-Event-clause-taken
 returns-in-Event-clause-taken c =
@@ -53,7 +53,7 @@ returns-in-Event-clause-taken c =
     event_takes c.args.self.now c.step.new.self c.args._before state c.args.line.now c.step.new.log.items c.in-Event.at c.in-Event.event stands
     (c.if-is_misplaced.ensures state.history stands.node)
     (subst (Spells (number_at c.args.self.now.node) c.args.line.now) c.in-Event.is c.in_ok-read_line.ensures)
-    c.step.ensures.rates c.step.ensures.number made.0 made.1.0 (λ history here. alone _ _ _ (made.1.1 history here) c.requires.empty))
+    c.step.ensures.rates c.step.ensures.number made.0 made.1.0 made.1.1)
 
 pub returns-in-Event-clause-unfit : goal.returns-in-Event-clause-unfit
 returns-in-Event-clause-unfit c =
