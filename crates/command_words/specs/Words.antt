@@ -112,7 +112,8 @@ abbrev pub IsReading : Meaning → Result CommandLine NoCommand → Type 0
 IsReading meaning (Ok line) = meaning ≡ means line
 IsReading meaning (Err (no.Shown text)) = meaning ≡ asks
 IsReading meaning (Err (no.Refused why)) = meaning ≡ nothing
-IsReading meaning (Err no.Value) = meaning ≡ nothing
+IsReading meaning (Err no.Number) = meaning ≡ nothing
+IsReading meaning (Err no.Kind) = meaning ≡ nothing
 IsReading meaning (Err no.NoMemory) = Unit {0}
 
 -- what clap's error makes of the words

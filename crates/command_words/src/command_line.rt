@@ -1,9 +1,9 @@
-ghost use Rattle.std.specs.Prelude.{◌≡◌, ◌≤◌, ◌^◌, ◌-◌, IfOk, IfSome, bytes_eq, codes, false, map, option_and_then, option_map};
+ghost use Rattle.std.specs.Prelude.{◌≡◌, ◌≤◌, ◌^◌, ◌-◌, Err, IfOk, IfSome, bytes_eq, codes, false, map, option_and_then, option_map};
 ghost use Rattle.std.specs.List.{join_by};
 ghost use Rattle.std.specs.Option.{option_map_or};
 ghost use Rattle.std.specs.String.{string_bytes};
 ghost use Rattle.clap.specs.Words.{all_of, first_of, found_of, kind_of, rows_of, subcommand_rows_of};
-ghost use Rattle.command_words.specs.Words.{IsInRange, IsReading, clerk_in, command_in, control_in, drill_in, half_in, kind_in, meaning_of, number_at, number_if_given, number_in, refusal_of, server_in, show_in};
+ghost use Rattle.command_words.specs.Words.{IsInRange, IsReading, clerk_in, command_in, control_in, drill_in, half_in, kind_in, meaning_of, nothing, number_at, number_if_given, number_in, refusal_of, server_in, show_in};
 
 use crate::syntax::{
     LATEST_START, MOST_EVENTS, MOST_INACCURACY, MOST_SEED, MOST_TURNS, MOST_WORKERS, dts,
@@ -85,9 +85,12 @@ pub enum NoCommand {
     /// No command takes them.
     #[error("{0}")]
     Refused(ClapError),
-    /// A number or a kind has not its form.
-    #[error("a number is in decimal, without a sign and leading zeros, and KIND is pdu, ntp or utc")]
-    Value,
+    /// A number has not its form.
+    #[error("a number is in decimal, without a sign and leading zeros")]
+    Number,
+    /// `show` does not know the kind.
+    #[error("KIND is pdu, ntp or utc")]
+    Kind,
     /// No memory was found.
     #[error("out of memory")]
     NoMemory,
@@ -136,7 +139,17 @@ pub fn read_words(alloc: Global, words: &[String]) -> Result<CommandLine, NoComm
     };
     match found(alloc, &matches)? {
         Some(line) => Ok(line),
-        None => Err(NoCommand::Value),
+        None => Err(wrong_value(&matches)),
+    }
+}
+
+// What is wrong of values that clap took: `show` takes a kind, and the other commands take numbers.
+fn wrong_value(matches: &ArgMatches<'_>) -> NoCommand
+    ensures { IsReading nothing (Err result) }
+{
+    match matches.subcommand_name() {
+        Some("show") => NoCommand::Kind,
+        _ => NoCommand::Number,
     }
 }
 

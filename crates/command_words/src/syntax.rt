@@ -44,7 +44,7 @@ A command that is not built yet ends with the status 1, as wrong words do.";
 pub fn dts<'a>(alloc: Global) -> Result<Command<'a>, AllocError>
     ensures app { IfOk result (λ command. app_of command ≡ dts) }
 {
-    program(alloc)
+    program(alloc)?
         .subcommand(replay(alloc)?)?
         .subcommand(clerk(alloc)?)?
         .subcommand(server(alloc)?)?
@@ -56,8 +56,8 @@ pub fn dts<'a>(alloc: Global) -> Result<Command<'a>, AllocError>
 }
 
 // The program, before it has commands.
-fn program<'a>(alloc: Global) -> Command<'a>
-    ensures app { app_of result ≡ program }
+fn program<'a>(alloc: Global) -> Result<Command<'a>, AllocError>
+    ensures app { IfOk result (λ command. app_of command ≡ program) }
 {
     Command::new(alloc, NAME)
         .version(VERSION)
@@ -66,6 +66,7 @@ fn program<'a>(alloc: Global) -> Command<'a>
         .no_binary_name(true)
         .disable_help_subcommand(true)
         .subcommand_required(true)
+        .bin_name(NAME)
 }
 
 fn replay<'a>(alloc: Global) -> Result<Command<'a>, AllocError>

@@ -27,7 +27,7 @@ use clap::Error as ClapError;
 use command_words::{CommandLine, NoCommand, read_words};
 use dts_base::{Failed, Link, Oscillator, Sink, Source, Words, write_all};
 use slew_clock::Rates;
-use std::alloc::Global;
+use std::alloc::{AllocError, Global};
 use std::sync::Wait;
 use std::thread::Threads;
 
@@ -164,8 +164,18 @@ pub fn run<
         Err(NoCommand::NoMemory) => Status::NoMemory,
         Ok(_unbuilt) => Status::Usage,
         Err(NoCommand::Refused(_why)) => Status::Usage,
-        Err(NoCommand::Value) => Status::Usage,
+        Err(NoCommand::Number) => Status::Usage,
+        Err(NoCommand::Kind) => Status::Usage,
     }
+}
+
+// The text of the help or the version, which ends with a line feed.
+fn whole_lines(alloc: Global, shown: &ClapError) -> Result<String, AllocError> {
+    let mut text = format!(in alloc; "{shown}")?;
+    if !text.ends_with('\n') {
+        text.push('\n')?;
+    }
+    Ok(text)
 }
 
 // Writes the help or the version.
@@ -176,7 +186,7 @@ fn show_text<O: Sink>(alloc: Global, shown: &ClapError, output: &mut O) -> Statu
     ensures write_fault { (which : SinkName) → result ≡ Status.WriteFault which → (which ≡ SinkName.Output) × Rose (O.faults output.old) (O.faults output.new) }
     ensures write_kept { ((which : SinkName) → result ≡ Status.WriteFault which → ⊥) → O.faults output.new ≡ O.faults output.old }
 {
-    let Ok(text) = format!(in alloc; "{shown}") else {
+    let Ok(text) = whole_lines(alloc, shown) else {
         return Status::NoMemory;
     };
     match write_all(output, text.as_bytes()) {

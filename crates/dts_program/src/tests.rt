@@ -392,10 +392,11 @@ fn help_and_version_go_to_the_output(rt: HostRuntime) -> Result<(), Fail> {
             Status::Done
         };
         assert_eq!(rt; got, status, "at {line:?}");
-        assert!(rt;
-            outside.output.written().starts_with(begin.as_bytes()),
-            "at {line:?}"
-        );
+        let written = outside.output.written();
+        assert!(rt; written.starts_with(begin.as_bytes()), "at {line:?}");
+        if status == Status::Done {
+            assert!(rt; written.ends_with(b"\n"), "at {line:?}");
+        }
     }
     Ok(())
 }

@@ -32,4 +32,5 @@ returns-clause-read c =
     let none : fault_of dts words ≡ [] = subst (λ (a : App). fault_of a words ≡ []) app (c.in-Ok.ensures.kinds (ap is_simple_and_free app ∙ dts_is_free)) in
     let found : subcommand_rows_of c.in-Ok.matches ≡ subcommand_of dts words =
     (c.in-Ok.ensures.matches (ap is_simple app ∙ dts_is_simple)).1 ∙ ap (λ (a : App). subcommand_of a words) app in
-    accepted words _ _ none found c.in_ok-line.ensures.found ∙ ap (λ line. option_map_or means line nothing) c.in-None.is
+    let is : meaning_of words ≡ nothing = accepted words _ _ none found c.in_ok-line.ensures.found ∙ ap (λ line. option_map_or means line nothing) c.in-None.is in
+    subst (λ meaning. IsReading meaning (Err c.wrong_value.result)) (sym is) c.wrong_value.ensures

@@ -5,7 +5,7 @@ use Rattle.command_words.proofs.syntax.dts.Goals as goal
 
 pub returns : goal.returns
 returns c =
-    let one = c.in_ok-subcommand.ensures.shape c.in_ok-replay.ensures.shape.1 ∙ ap₂ with_subcommand c.program.ensures.app c.in_ok-replay.ensures.shape.0 in
+    let one = c.in_ok-subcommand.ensures.shape c.in_ok-replay.ensures.shape.1 ∙ ap₂ with_subcommand c.in_ok-program.ensures.app c.in_ok-replay.ensures.shape.0 in
     let two = c.in_ok-subcommand-2.ensures.shape c.in_ok-clerk.ensures.shape.1 ∙ ap₂ with_subcommand one c.in_ok-clerk.ensures.shape.0 in
     let three = c.in_ok-subcommand-3.ensures.shape c.in_ok-server.ensures.shape.1 ∙ ap₂ with_subcommand two c.in_ok-server.ensures.shape.0 in
     let four = c.in_ok-subcommand-4.ensures.shape c.in_ok-utc.ensures.shape.1 ∙ ap₂ with_subcommand three c.in_ok-utc.ensures.shape.0 in
