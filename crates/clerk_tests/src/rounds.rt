@@ -1,3 +1,4 @@
+use assertions::assert_equal;
 use clerk::{MAX_QUERIES, Outcome, QueryState, Round};
 use dts_base::{Interval, NoMemory};
 use slew_clock::{GREATEST_OSC, GREATEST_TIME, Rates};
@@ -225,11 +226,11 @@ fn outcomes_of_rounds(rt: HostRuntime) -> Result<(), NoMemory> {
             assert!(rt; false);
             return Ok(());
         };
-        assert_eq!(rt; outcome(&mut round, *osc, *own), *expected);
+        assert_equal!(rt; outcome(&mut round, *osc, *own), *expected);
         // A copy means the same, and so does the round that was evaluated.
         let mut copy = round.copy(rt.alloc())?;
-        assert_eq!(rt; outcome(&mut copy, *osc, *own), *expected);
-        assert_eq!(rt; copy.queries(), round.queries());
+        assert_equal!(rt; outcome(&mut copy, *osc, *own), *expected);
+        assert_equal!(rt; copy.queries(), round.queries());
     }
     Ok(())
 }
@@ -247,12 +248,11 @@ fn queries_stand_as_was_told(rt: HostRuntime) -> Result<(), NoMemory> {
         got: 3000,
         interval,
     };
-    assert_eq!(rt; round.state(7), Some(state));
-    assert_eq!(rt; round.state(9), Some(QueryState::Pending));
-    assert_eq!(rt; round.state(8), None);
-    assert_eq!(rt;
-        (round.number(), round.opened(), round.latest()),
-        (1, 0, 3000)
+    assert_equal!(rt; round.state(7), Some(state));
+    assert_equal!(rt; round.state(9), Some(QueryState::Pending));
+    assert_equal!(rt; round.state(8), None);
+    assert_equal!(rt; (round.number(), round.opened(), round.latest()),
+        (1, 0, 3000),
     );
     // What was answered is answered no more, and what is pending was not asked.
     for told in [
@@ -291,12 +291,13 @@ fn sixty_four_queries_and_their_false_answers(rt: HostRuntime) -> Result<(), NoM
         lo: LO,
         hi: 5_000_003_002,
     };
-    assert_eq!(rt;
-        outcome(&mut round, 3000, None),
-        Some(Outcome::Adopted { n: 64, interval })
+    assert_equal!(rt; outcome(&mut round, 3000, None),
+        Some(Outcome::Adopted { n: 64, interval }),
     );
     for peer in [0, 63] {
-        assert_eq!(rt; is_false(&round, 3000, peer, &interval), Some(peer == 63));
+        assert_equal!(rt; is_false(&round, 3000, peer, &interval),
+            Some(peer == 63),
+        );
     }
     Ok(())
 }

@@ -1,3 +1,4 @@
+use assertions::{assert_equal, assert_equal_at};
 use dts_base::{Interval, NoMemory};
 use intersection::{
     Sweep, adopt, false_intervals_lack_true_time, is_false, one_interval_is_adopted,
@@ -36,11 +37,7 @@ fn what_more_than_half_hold_is_adopted(rt: HostRuntime) -> Result<(), NoMemory> 
         (&[(0, 1), (4, 5), (0, 5)], Some((0, 5))),
     ] {
         let s = intervals(rt.alloc(), ends)?;
-        assert_eq!(rt;
-            adopted(rt.alloc(), &s)?,
-            [expected, expected],
-            "of {ends:?}"
-        );
+        assert_equal_at!(rt; ends, adopted(rt.alloc(), &s)?, [expected, expected]);
     }
     Ok(())
 }
@@ -55,7 +52,7 @@ fn sixty_five_intervals_are_adopted(rt: HostRuntime) -> Result<(), NoMemory> {
         })?;
     }
     let expected = Some((32, 100));
-    assert_eq!(rt; adopted(rt.alloc(), &s)?, [expected, expected]);
+    assert_equal!(rt; adopted(rt.alloc(), &s)?, [expected, expected]);
     Ok(())
 }
 
@@ -105,11 +102,8 @@ fn adoption_agrees_with_a_count_over_all_points(rt: HostRuntime) -> Result<(), N
         let (s, last) = drawn(rt.alloc(), x)?;
         x = last;
         let expected = by_points(&s);
-        assert_eq!(rt;
-            adopted(rt.alloc(), &s)?,
-            [expected, expected],
-            "at {k} of {s:?}"
-        );
+        let found = adopted(rt.alloc(), &s)?;
+        assert_equal_at!(rt; (k, s), found, [expected, expected]);
     }
     Ok(())
 }
@@ -127,7 +121,7 @@ fn intervals_that_touch_the_adopted_one_are_not_false(rt: HostRuntime) {
     ] {
         assert!(rt; lo <= hi);
         let answer = is_false(&Interval { lo, hi }, &adopted);
-        assert_eq!(rt; answer, expected, "of {lo} to {hi}");
+        assert_equal_at!(rt; (lo, hi), answer, expected);
     }
 }
 

@@ -1,12 +1,14 @@
+use assertions::assert_equal;
 use dts_base::{Bytes, Field, Interval, Refused, State, WireCause};
 use dts_capture::*;
 use line_reader::MAX_LINE;
 use slew_clock::{Anchor, ClockRecord, PartA, PartB};
+use std::io::Eprint;
 use std::process::Abort;
 use std::test::Fail;
 
-fn expect_line(rt: &impl Abort, alloc: std::alloc::Global, text: &[u8], line: Line) {
-    assert_eq!(rt; parse_line(alloc, text), Ok(line));
+fn expect_line(rt: &(impl Abort + Eprint), alloc: std::alloc::Global, text: &[u8], line: Line) {
+    assert_equal!(rt; parse_line(alloc, text), Ok(line));
 }
 
 fn event(event: Event) -> Line {
@@ -172,9 +174,8 @@ fn wrong_lines_are_refused_at_their_first_wrong_field(rt: HostRuntime) -> Result
         (b"ask 05 999 a 1", 5, LineCause::Number),
     ];
     for (line, column, cause) in rows {
-        assert_eq!(rt;
-            parse_line(rt.alloc(), line),
-            Err(LineFault::Wrong { column, cause })
+        assert_equal!(rt; parse_line(rt.alloc(), line),
+            Err(LineFault::Wrong { column, cause }),
         );
     }
     Ok(())
@@ -197,7 +198,7 @@ fn faults_say_what_would_be_right(rt: HostRuntime) -> Result<(), Fail> {
         ),
     ] {
         let fault = LineFault::Wrong { column, cause };
-        assert_eq!(rt; format!(in rt.alloc(); "{fault}")?.as_str(), text);
+        assert_equal!(rt; format!(in rt.alloc(); "{fault}")?.as_str(), text);
     }
     Ok(())
 }
@@ -208,12 +209,14 @@ fn at_names_the_current_record(rt: HostRuntime) -> Result<(), Fail> {
         at: Some(3),
         event: Event::Read { osc: 1 },
     };
-    assert_eq!(rt; parse_line_at(rt.alloc(), 3, b"at 3 read 1"), Ok(read));
+    assert_equal!(rt; parse_line_at(rt.alloc(), 3, b"at 3 read 1"), Ok(read));
     let fault = LineFault::Wrong {
         column: 4,
         cause: LineCause::At,
     };
-    assert_eq!(rt; parse_line_at(rt.alloc(), 3, b"at 4 read x"), Err(fault));
+    assert_equal!(rt; parse_line_at(rt.alloc(), 3, b"at 4 read x"),
+        Err(fault),
+    );
     Ok(())
 }
 
@@ -224,17 +227,19 @@ fn a_line_may_be_of_16384_octets(rt: HostRuntime) -> Result<(), Fail> {
         cause: LineCause::Long,
     };
     let mut comment = vec![in rt.alloc(); b'#'; MAX_LINE]?;
-    assert_eq!(rt; parse_line(rt.alloc(), comment.as_slice()), Ok(Line::Blank));
+    assert_equal!(rt; parse_line(rt.alloc(), comment.as_slice()),
+        Ok(Line::Blank),
+    );
     comment.push(b'#')?;
-    assert_eq!(rt; parse_line(rt.alloc(), comment.as_slice()), Err(long));
+    assert_equal!(rt; parse_line(rt.alloc(), comment.as_slice()), Err(long));
     let mut word = vec![in rt.alloc(); b'a'; MAX_LINE]?;
     let wrong = LineFault::Wrong {
         column: 1,
         cause: LineCause::Word,
     };
-    assert_eq!(rt; parse_line(rt.alloc(), word.as_slice()), Err(wrong));
+    assert_equal!(rt; parse_line(rt.alloc(), word.as_slice()), Err(wrong));
     word.push(b'a')?;
-    assert_eq!(rt; parse_line(rt.alloc(), word.as_slice()), Err(long));
+    assert_equal!(rt; parse_line(rt.alloc(), word.as_slice()), Err(long));
     Ok(())
 }
 
@@ -248,8 +253,10 @@ fn octets_are_printed_as_far_as_a_line_reaches(rt: HostRuntime) -> Result<(), Fa
         });
         let sent = gram(Bytes::from_vec(vec![in rt.alloc(); 0xabu8; octets]?));
         let text = print_line(rt.alloc(), &sent)?;
-        assert_eq!(rt; text.as_slice().len(), length);
-        assert_eq!(rt; parse_line(rt.alloc(), text.as_slice()) == Ok(sent), fits);
+        assert_equal!(rt; text.as_slice().len(), length);
+        assert_equal!(rt; parse_line(rt.alloc(), text.as_slice()) == Ok(sent),
+            fits,
+        );
     }
     Ok(())
 }
@@ -277,7 +284,7 @@ fn printed_lines_read_back(rt: HostRuntime) -> Result<(), Fail> {
     ];
     for text in rows {
         match parse_line(rt.alloc(), text) {
-            Ok(line) => assert_eq!(rt; print_line(rt.alloc(), &line)?.as_slice(), text),
+            Ok(line) => assert_equal!(rt; print_line(rt.alloc(), &line)?.as_slice(), text),
             Err(fault) => panic!(rt; "{fault}"),
         }
     }
@@ -285,12 +292,12 @@ fn printed_lines_read_back(rt: HostRuntime) -> Result<(), Fail> {
 }
 
 fn expect_log(
-    rt: &impl Abort,
+    rt: &(impl Abort + Eprint),
     alloc: std::alloc::Global,
     action: Action,
     text: &[u8],
 ) -> Result<(), Fail> {
-    assert_eq!(rt; print_action(alloc, &action)?.as_slice(), text);
+    assert_equal!(rt; print_action(alloc, &action)?.as_slice(), text);
     Ok(())
 }
 

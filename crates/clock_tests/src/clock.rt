@@ -2,6 +2,7 @@ ghost use Rattle.std.specs.Prelude.{◌≤◌};
 ghost use Rattle.slew_clock.specs.Record.{IsSound};
 ghost use Rattle.slew_clock.specs.UsualRates.{usual_rates};
 
+use assertions::{assert_equal, assert_equal_at};
 use dts_base::Interval;
 use slew_clock::{
     Anchor, ClockRecord, GREATEST_ANCHOR, GREATEST_INACCURACY, GREATEST_OSC, GREATEST_TIME,
@@ -27,9 +28,9 @@ fn a_reading_follows_the_line_and_past_its_end_stands_still(rt: HostRuntime) {
     ] {
         let reading = read_at(&Rates::usual(), &rec, u64::from(osc)).expect(&rt, "not regressed");
         let (said, within) = (reading.value, reading.inaccuracy);
-        assert_eq!(rt; (said, within), (value, Some(inaccuracy)), "at {osc}");
+        assert_equal_at!(rt; osc, (said, within), (value, Some(inaccuracy)));
         let (step, number, at) = (reading.step, reading.number, reading.osc);
-        assert_eq!(rt; (step, number, at), (0, 0, u64::from(osc)), "at {osc}");
+        assert_equal_at!(rt; osc, (step, number, at), (0, 0, u64::from(osc)));
     }
 }
 
@@ -37,8 +38,8 @@ fn a_reading_follows_the_line_and_past_its_end_stands_still(rt: HostRuntime) {
 fn a_reading_without_an_anchor_is_unspecified(rt: HostRuntime) {
     let rec = start(0, 1_000_000, None);
     let reading = read_at(&Rates::usual(), &rec, 5).expect(&rt, "not regressed");
-    assert_eq!(rt; (reading.value, reading.inaccuracy), (1_000_005, None));
-    assert_eq!(rt; interval_at(&Rates::usual(), &rec, 5), None);
+    assert_equal!(rt; (reading.value, reading.inaccuracy), (1_000_005, None));
+    assert_equal!(rt; interval_at(&Rates::usual(), &rec, 5), None);
 }
 
 #[test]
@@ -49,7 +50,7 @@ fn a_reading_below_the_record_is_regressed(rt: HostRuntime) {
         osc: 99,
         number: 0,
     };
-    assert_eq!(rt; read_at(&Rates::usual(), &rec, 99), Err(regressed));
+    assert_equal!(rt; read_at(&Rates::usual(), &rec, 99), Err(regressed));
 }
 
 // A record of a clock that started a tenth of a second ahead of the middle of its first interval.
@@ -95,23 +96,23 @@ fn a_clock_that_is_ahead_is_slewed_back_over_its_renewals(rt: HostRuntime) {
     let start = start(0, 2_000_000, first);
     let first = renewed_at(&rt, &start, 0);
     let b = part_b(40_000_000, -400_000);
-    assert_eq!(rt; first, ahead(1, 0, part_a(0, 2_000_000, 0), b));
+    assert_equal!(rt; first, ahead(1, 0, part_a(0, 2_000_000, 0), b));
     let second = renewed_at(&rt, &first, 40_000_000);
     let a = part_a(40_000_000, 42_000_000, -400_000);
     let b = part_b(80_000_000, -400_000);
-    assert_eq!(rt; second, ahead(2, 40_000_000, a, b));
+    assert_equal!(rt; second, ahead(2, 40_000_000, a, b));
     let third = renewed_at(&rt, &second, 80_000_000);
     let a = part_a(80_000_000, 81_600_000, -400_000);
     let b = part_b(120_000_000, -200_000);
-    assert_eq!(rt; third, ahead(3, 80_000_000, a, b));
+    assert_equal!(rt; third, ahead(3, 80_000_000, a, b));
     let reading = read_at(&Rates::usual(), &third, 100_000_000).expect(&rt, "not regressed");
     let (value, inaccuracy) = (reading.value, reading.inaccuracy);
-    assert_eq!(rt; (value, inaccuracy), (101_400_000, Some(411_001)));
-    assert_eq!(rt; (reading.step, reading.number), (0, 3));
+    assert_equal!(rt; (value, inaccuracy), (101_400_000, Some(411_001)));
+    assert_equal!(rt; (reading.step, reading.number), (0, 3));
     let fourth = renewed_at(&rt, &third, 120_000_000);
     let a = part_a(120_000_000, 121_200_000, -200_000);
     let b = part_b(160_000_000, 0);
-    assert_eq!(rt; fourth, ahead(4, 120_000_000, a, b));
+    assert_equal!(rt; fourth, ahead(4, 120_000_000, a, b));
 }
 
 #[test]
@@ -140,9 +141,9 @@ fn a_renewal_differs_before_its_second_part_and_from_its_end_on(rt: HostRuntime)
         let osc = u64::from(osc);
         assert!(rt; first.number < 10 && first.born <= osc);
         let next = renewed(&Rates::usual(), &first, osc);
-        assert_eq!(rt; next.map(|next| (next.a, next.b)), parts, "at {osc}");
+        assert_equal_at!(rt; osc, next.map(|next| (next.a, next.b)), parts);
         let kept = next.map_or((2, osc), |next| (next.number, next.born));
-        assert_eq!(rt; kept, (2, osc), "at {osc}");
+        assert_equal_at!(rt; osc, kept, (2, osc));
     }
 }
 
@@ -154,7 +155,7 @@ fn an_interval_is_the_anchor_carried_on(rt: HostRuntime) {
     });
     let rec = start(0, 1_000_000, first);
     let carried = interval_at(&Rates::usual(), &rec, 10_000_000);
-    assert_eq!(rt; carried, Some((10_997_999, 11_002_001)));
+    assert_equal!(rt; carried, Some((10_997_999, 11_002_001)));
 }
 
 #[test]
@@ -165,7 +166,7 @@ fn an_inaccuracy_is_specified_up_to_its_limit(rt: HostRuntime) {
     ] {
         let rec = start(0, 0, Some(Interval { lo: 0, hi }));
         let reading = read_at(&Rates::usual(), &rec, 0).expect(&rt, "not regressed");
-        assert_eq!(rt; reading.inaccuracy, inaccuracy, "at {hi}");
+        assert_equal_at!(rt; hi, reading.inaccuracy, inaccuracy);
     }
 }
 
@@ -176,15 +177,14 @@ fn readings_are_exact_at_the_ends_of_their_ranges(rt: HostRuntime) {
     let rates = Rates::usual();
     let first = Some(Interval { lo: end, hi: end });
     let reading = read_at(&rates, &start(late, end, first), late).expect(&rt, "not regressed");
-    assert_eq!(rt; (reading.value, reading.inaccuracy), (end, Some(1)));
+    assert_equal!(rt; (reading.value, reading.inaccuracy), (end, Some(1)));
     let rec = start(0, end, first);
     let reading = read_at(&rates, &rec, late).expect(&rt, "not regressed");
-    assert_eq!(rt;
-        (reading.value, reading.inaccuracy),
-        (end + 40_000_000, None)
+    assert_equal!(rt; (reading.value, reading.inaccuracy),
+        (end + 40_000_000, None),
     );
     let carried = (3_458_649_221_670_080_242, 3_458_879_805_971_001_614);
-    assert_eq!(rt; interval_at(&rates, &rec, late), Some(carried));
+    assert_equal!(rt; interval_at(&rates, &rec, late), Some(carried));
 }
 
 #[test]
@@ -212,10 +212,9 @@ fn rates_are_refused_at_the_first_argument_out_of_its_range(rt: HostRuntime) {
     ] {
         let (drift_ppm, resolution, lease, slew_ppm, tolerance) = rates;
         let answer = Rates::new(drift_ppm, resolution, lease, slew_ppm, tolerance);
-        assert_eq!(rt;
+        assert_equal_at!(rt; rates,
             answer.err(),
             refused.map(|which| RateRange { which }),
-            "at {rates:?}"
         );
     }
 }
@@ -240,7 +239,7 @@ fn a_far_answer_is_carried_and_stepped_to(rt: HostRuntime) {
     };
     let osc = 10_000_000;
     let i = carried(&rates, answer, osc, osc, osc);
-    assert_eq!(rt; (i.lo, i.hi), (20_000_000_000, 20_000_002_001));
+    assert_equal!(rt; (i.lo, i.hi), (20_000_000_000, 20_000_002_001));
     let rec = at_fifty_minutes();
     assert!(rt; rec.number < 10 && rec.born <= osc);
     let next = changed(&rates, &rec, osc, i).expect(&rt, "in range");
@@ -256,10 +255,10 @@ fn a_far_answer_is_carried_and_stepped_to(rt: HostRuntime) {
         a: part_a(osc, 20_000_001_000, 0),
         b: part_b(osc, 0),
     };
-    assert_eq!(rt; next, expected);
+    assert_equal!(rt; next, expected);
     let reading = read_at(&rates, &next, osc).expect(&rt, "not regressed");
     let (value, inaccuracy) = (reading.value, reading.inaccuracy);
-    assert_eq!(rt; (value, inaccuracy), (20_000_001_000, Some(1_002)));
+    assert_equal!(rt; (value, inaccuracy), (20_000_001_000, Some(1_002)));
 }
 
 #[test]
@@ -273,7 +272,7 @@ fn an_answer_is_carried_from_its_asking_and_its_coming(rt: HostRuntime) {
         assert!(rt; asked <= got && got <= now);
         let (asked, got, now) = (u64::from(asked), u64::from(got), u64::from(now));
         let i = carried(&Rates::usual(), answer, asked, got, now);
-        assert_eq!(rt; (i.lo, i.hi), (lo, hi), "at {asked} {got} {now}");
+        assert_equal_at!(rt; (asked, got, now), (i.lo, i.hi), (lo, hi));
     }
 }
 
@@ -292,12 +291,11 @@ fn a_record_steps_where_the_middle_is_beyond_the_tolerance(rt: HostRuntime) {
         };
         assert!(rt; rec.number < 10 && rec.born == 0);
         let next = changed(&Rates::usual(), &rec, 0, i).expect(&rt, "in range");
-        assert_eq!(rt; (next.number, next.step), (1, step), "at {middle}");
+        assert_equal_at!(rt; middle, (next.number, next.step), (1, step));
         let value = if step == 1 { middle } else { 30_000_000_000 };
-        assert_eq!(rt;
+        assert_equal_at!(rt; middle,
             (next.a, next.b),
             (part_a(0, value, 0), part_b(0, 0)),
-            "at {middle}"
         );
     }
     let unknown = start(0, 30_000_000_000, None);
@@ -306,7 +304,7 @@ fn a_record_steps_where_the_middle_is_beyond_the_tolerance(rt: HostRuntime) {
         hi: 30_000_000_001,
     };
     let next = changed(&Rates::usual(), &unknown, 0, i).expect(&rt, "in range");
-    assert_eq!(rt; (next.step, next.a.value), (1, 30_000_000_000));
+    assert_equal!(rt; (next.step, next.a.value), (1, 30_000_000_000));
 }
 
 #[test]
@@ -323,8 +321,10 @@ fn another_anchor_leaves_the_line(rt: HostRuntime) {
         lo: 30_000_000_000,
         hi: 30_000_000_100,
     };
-    assert_eq!(rt; (next.number, next.step, next.born), (1, 0, 5));
-    assert_eq!(rt; (next.anchor, next.a, next.b), (Some(anchor), rec.a, rec.b));
+    assert_equal!(rt; (next.number, next.step, next.born), (1, 0, 5));
+    assert_equal!(rt; (next.anchor, next.a, next.b),
+        (Some(anchor), rec.a, rec.b),
+    );
 }
 
 #[test]
@@ -343,9 +343,9 @@ fn an_interval_out_of_range_is_refused(rt: HostRuntime) {
         let i = Interval { lo, hi };
         let range = if fits { None } else { Some(Range { lo, hi }) };
         let rates = Rates::usual();
-        assert_eq!(rt; anchored(&rates, &rec, 0, i).err(), range, "at {lo} {hi}");
-        assert_eq!(rt; stepped(&rates, &rec, 0, i).err(), range, "at {lo} {hi}");
-        assert_eq!(rt; changed(&rates, &rec, 0, i).err(), range, "at {lo} {hi}");
+        assert_equal_at!(rt; (lo, hi), anchored(&rates, &rec, 0, i).err(), range);
+        assert_equal_at!(rt; (lo, hi), stepped(&rates, &rec, 0, i).err(), range);
+        assert_equal_at!(rt; (lo, hi), changed(&rates, &rec, 0, i).err(), range);
     }
 }
 
@@ -385,27 +385,28 @@ fn changes_are_exact_at_the_ends_of_their_ranges(rt: HostRuntime) {
     assert!(rt; rec.number < u64::MAX && rec.born == late);
     let i = Interval { lo: end, hi: end };
     let next = stepped(&rates, &rec, late, i).expect(&rt, "in range");
-    assert_eq!(rt; (next.number, next.step), (u64::MAX, u64::MAX));
-    assert_eq!(rt; next.a, part_a(late, end, 0));
+    assert_equal!(rt; (next.number, next.step), (u64::MAX, u64::MAX));
+    assert_equal!(rt; next.a, part_a(late, end, 0));
     let next = renewed(&rates, &rec, late).expect(&rt, "the second part has begun");
     let a = part_a(late, 6_917_529_027_641_081_856, -400_000);
-    assert_eq!(rt; (next.a, next.b), (a, part_b(late + 40_000_000, -400_000)));
+    assert_equal!(rt; (next.a, next.b),
+        (a, part_b(late + 40_000_000, -400_000)),
+    );
     let last = carried(&rates, Interval { lo: 0, hi: end / 2 }, 0, late, late);
-    assert_eq!(rt; (last.lo, last.hi), (0, 3_458_879_805_971_001_614));
+    assert_equal!(rt; (last.lo, last.hi), (0, 3_458_879_805_971_001_614));
 }
 
 #[test]
 fn usual_rates_and_limits_are_these_numbers(rt: HostRuntime) {
     let rates = Rates::usual();
-    assert_eq!(rt; (rates.drift_ppm, rates.resolution), (100, 1));
-    assert_eq!(rt; (rates.lease, rates.slew_ppm), (40_000_000, 10_000));
-    assert_eq!(rt; rates.tolerance, 6_000_000_000);
-    assert_eq!(rt; GREATEST_OSC, 1_152_921_504_606_846_976);
-    assert_eq!(rt; GREATEST_TIME, 2_305_843_009_213_693_952);
-    assert_eq!(rt; GREATEST_ANCHOR, 4_611_686_018_427_387_904);
-    assert_eq!(rt;
-        (GREATEST_INACCURACY, MILLION),
-        (281_474_976_710_654, 1_000_000)
+    assert_equal!(rt; (rates.drift_ppm, rates.resolution), (100, 1));
+    assert_equal!(rt; (rates.lease, rates.slew_ppm), (40_000_000, 10_000));
+    assert_equal!(rt; rates.tolerance, 6_000_000_000);
+    assert_equal!(rt; GREATEST_OSC, 1_152_921_504_606_846_976);
+    assert_equal!(rt; GREATEST_TIME, 2_305_843_009_213_693_952);
+    assert_equal!(rt; GREATEST_ANCHOR, 4_611_686_018_427_387_904);
+    assert_equal!(rt; (GREATEST_INACCURACY, MILLION),
+        (281_474_976_710_654, 1_000_000),
     );
 }
 
@@ -424,22 +425,20 @@ fn the_laws_have_no_effect() {
 #[test]
 fn faults_have_their_texts(rt: HostRuntime) -> Result<(), AllocError> {
     let text = format!(in rt.alloc(); "{}", RateRange { which: 2 })?;
-    assert_eq!(rt; text.as_str(), "rate 2 is out of its range");
+    assert_equal!(rt; text.as_str(), "rate 2 is out of its range");
     let regressed = Regressed {
         floor: 100,
         osc: 99,
         number: 3,
     };
     let text = format!(in rt.alloc(); "{regressed}")?;
-    assert_eq!(rt;
-        text.as_str(),
-        "the oscillator reads 99, below 100, at record 3"
+    assert_equal!(rt; text.as_str(),
+        "the oscillator reads 99, below 100, at record 3",
     );
     let range = Range { lo: -1, hi: 5 };
     let text = format!(in rt.alloc(); "{range}")?;
-    assert_eq!(rt;
-        text.as_str(),
-        "an end of the interval from -1 to 5 is out of range"
+    assert_equal!(rt; text.as_str(),
+        "an end of the interval from -1 to 5 is out of range",
     );
     Ok(())
 }

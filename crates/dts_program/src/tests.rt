@@ -4,6 +4,7 @@ use crate::command::utc;
 use crate::outside::{Outside, run};
 use crate::sides;
 use crate::status::{SinkName, SourceName, Status};
+use assertions::{assert_at, assert_equal, assert_equal_at};
 use command_words::{CommandLine, HalfOptions, NoCommand, ShowKind, read_words};
 use dts_base::{
     Field, MemoryLink, MemoryOscillator, MemorySink, MemorySource, MemoryWords, NoMemory, Text,
@@ -11,8 +12,11 @@ use dts_base::{
 };
 use dts_capture::LineCause;
 use std::alloc::{AllocError, Global};
+use std::io::Eprint;
 use std::process::Abort;
+use std::sync::Wait;
 use std::test::Fail;
+use std::thread::Threads;
 use utc_calculator::UtcCause;
 use utc_order::OrderCause;
 use utc_routines::UtcFault;
@@ -27,6 +31,19 @@ type InMemory = Outside<
     MemoryOscillator,
     MemoryWords,
 >;
+
+// The status of `utc` over these octets, and what was written, where these reads and writes fail.
+fn calculated(
+    alloc: Global,
+    octets: &[u8],
+    reads: &[u64],
+    writes: &[u64],
+) -> Result<(Status, Text), NoMemory> {
+    let mut input = MemorySource::new(alloc, octets, reads)?;
+    let mut output = MemorySink::new(alloc, writes)?;
+    let status = utc(alloc, &mut input, &mut output);
+    Ok((status, Text::from_slice(alloc, output.written())?))
+}
 
 #[test]
 fn operations_give_their_answers(rt: HostRuntime) -> Result<(), Fail> {
@@ -70,15 +87,9 @@ fn operations_give_their_answers(rt: HostRuntime) -> Result<(), Fail> {
             digits,
         ),
     ] {
-        let mut input = MemorySource::new(rt.alloc(), lines.as_bytes(), &[])?;
-        let mut output = MemorySink::new(rt.alloc(), &[])?;
-        let got = utc(rt.alloc(), &mut input, &mut output);
-        assert_eq!(rt; got, status, "the status of {lines:?}");
-        assert_eq!(rt;
-            output.written(),
-            want.as_bytes(),
-            "the answers of {lines:?}"
-        );
+        let (got, written) = calculated(rt.alloc(), lines.as_bytes(), &[], &[])?;
+        assert_equal_at!(rt; lines, got, status);
+        assert_equal_at!(rt; lines, written.as_slice(), want.as_bytes());
     }
     Ok(())
 }
@@ -102,11 +113,9 @@ fn faults_of_a_calculation_are_answered(rt: HostRuntime) -> Result<(), Fail> {
         (9, 3, write_fault(), two.as_str()),
         (9, 4, Status::Done, all.as_str()),
     ] {
-        let mut input = MemorySource::new(rt.alloc(), lines, &[read])?;
-        let mut output = MemorySink::new(rt.alloc(), &[write])?;
-        let got = utc(rt.alloc(), &mut input, &mut output);
-        assert_eq!(rt; got, status, "where read {read} and write {write} fail");
-        assert_eq!(rt; output.written(), want.as_bytes());
+        let (got, written) = calculated(rt.alloc(), lines, &[read], &[write])?;
+        assert_equal_at!(rt; (read, write), got, status);
+        assert_equal_at!(rt; (read, write), written.as_slice(), want.as_bytes());
     }
     Ok(())
 }
@@ -133,11 +142,9 @@ fn a_line_has_at_most_16384_octets(rt: HostRuntime) -> Result<(), Fail> {
         if feed {
             lines.push(b'\n')?;
         }
-        let mut input = MemorySource::new(rt.alloc(), lines.as_slice(), &[])?;
-        let mut output = MemorySink::new(rt.alloc(), &[])?;
-        let got = utc(rt.alloc(), &mut input, &mut output);
-        assert_eq!(rt; got, status, "at {length}");
-        assert_eq!(rt; output.written(), answer);
+        let (got, written) = calculated(rt.alloc(), lines.as_slice(), &[], &[])?;
+        assert_equal_at!(rt; length, got, status);
+        assert_equal_at!(rt; length, written.as_slice(), answer);
     }
     Ok(())
 }
@@ -167,6 +174,19 @@ fn words_of(alloc: Global, line: &str) -> Result<Vec<String>, AllocError> {
     Ok(words)
 }
 
+// The status of `run` by the words of a line over this input, and what was written.
+fn ran<R: Threads + Wait + Sync>(
+    rt: &R,
+    alloc: Global,
+    line: &str,
+    input: &str,
+) -> Result<(Status, Text), Fail> {
+    let words = words_of(alloc, line)?;
+    let mut outside = in_memory(alloc, input)?;
+    let status = run(rt, alloc, words.as_slice(), &mut outside);
+    Ok((status, Text::from_slice(alloc, outside.output.written())?))
+}
+
 // What `read_words` makes of the words of a line.
 fn read(alloc: Global, line: &str) -> Result<Result<CommandLine, NoCommand>, AllocError> {
     let words = words_of(alloc, line)?;
@@ -174,11 +194,13 @@ fn read(alloc: Global, line: &str) -> Result<Result<CommandLine, NoCommand>, All
 }
 
 // The words of a line mean a command.
-fn mean(rt: &impl Abort, alloc: Global, line: &str, want: CommandLine) -> Result<(), AllocError> {
-    assert!(rt;
-        read(alloc, line)?.is_ok_and(|got| got == want),
-        "at {line:?}"
-    );
+fn mean(
+    rt: &(impl Abort + Eprint),
+    alloc: Global,
+    line: &str,
+    want: CommandLine,
+) -> Result<(), AllocError> {
+    assert_at!(rt; line, read(alloc, line)?.is_ok_and(|got| got == want));
     Ok(())
 }
 
@@ -227,6 +249,7 @@ UTC
 help
 --roster replay
 replay x
+replay x --help
 replay utc
 replay --turns 1
 replay --roster --roster
@@ -260,11 +283,9 @@ control 127.0.0.1:7001";
 #[test]
 fn wrong_words_are_refused(rt: HostRuntime) -> Result<(), Fail> {
     for line in WRONG.lines() {
-        let words = words_of(rt.alloc(), line)?;
-        let mut outside = in_memory(rt.alloc(), "start 0 1 unknown")?;
-        let got = run(&rt, rt.alloc(), words.as_slice(), &mut outside);
-        assert_eq!(rt; got, Status::Usage, "at {line:?}");
-        assert_eq!(rt; outside.output.written(), b"".as_slice(), "at {line:?}");
+        let (got, written) = ran(&rt, rt.alloc(), line, "start 0 1 unknown")?;
+        assert_equal_at!(rt; line, got, Status::Usage);
+        assert_equal_at!(rt; line, written.as_slice(), b"".as_slice());
     }
     Ok(())
 }
@@ -365,11 +386,9 @@ fn built_commands_run_and_others_are_usage(rt: HostRuntime) -> Result<(), Fail> 
         ("drill 1 1", "", Status::Done, DRILLED),
         ("control 127.0.0.1:7001 show", "", Status::Usage, ""),
     ] {
-        let words = words_of(rt.alloc(), line)?;
-        let mut outside = in_memory(rt.alloc(), input)?;
-        let got = run(&rt, rt.alloc(), words.as_slice(), &mut outside);
-        assert_eq!(rt; got, status, "at {line:?}");
-        assert_eq!(rt; outside.output.written(), want.as_bytes(), "at {line:?}");
+        let (got, written) = ran(&rt, rt.alloc(), line, input)?;
+        assert_equal_at!(rt; line, got, status);
+        assert_equal_at!(rt; line, written.as_slice(), want.as_bytes());
     }
     Ok(())
 }
@@ -381,36 +400,26 @@ fn help_and_version_go_to_the_output(rt: HostRuntime) -> Result<(), Fail> {
         ("-h", "A time service"),
         ("--version", "dts 0.1.0\n"),
         ("drill --help", "Replays a capture"),
-        ("replay x --help", ""),
     ] {
-        let words = words_of(rt.alloc(), line)?;
-        let mut outside = in_memory(rt.alloc(), "start 0 1 unknown")?;
-        let got = run(&rt, rt.alloc(), words.as_slice(), &mut outside);
-        let status = if begin.is_empty() {
-            Status::Usage
-        } else {
-            Status::Done
-        };
-        assert_eq!(rt; got, status, "at {line:?}");
-        let written = outside.output.written();
-        assert!(rt; written.starts_with(begin.as_bytes()), "at {line:?}");
-        if status == Status::Done {
-            assert!(rt; written.ends_with(b"\n"), "at {line:?}");
-        }
+        let (got, written) = ran(&rt, rt.alloc(), line, "start 0 1 unknown")?;
+        assert_equal_at!(rt; line, got, Status::Done);
+        let written = written.as_slice();
+        assert_at!(rt; line, written.starts_with(begin.as_bytes()));
+        assert_at!(rt; line, written.ends_with(b"\n"));
     }
     Ok(())
 }
 
 // A status has this number and this text.
 fn tells(
-    rt: &impl Abort,
+    rt: &(impl Abort + Eprint),
     alloc: Global,
     status: Status,
     number: u8,
     text: &str,
 ) -> Result<(), AllocError> {
-    assert_eq!(rt; status.number(), number);
-    assert_eq!(rt; format!(in alloc; "{status}")?.as_str(), text);
+    assert_equal!(rt; status.number(), number);
+    assert_equal!(rt; format!(in alloc; "{status}")?.as_str(), text);
     Ok(())
 }
 

@@ -1,3 +1,4 @@
+use assertions::assert_equal;
 use dts_base::{Field, Refused, WireCause};
 use ntp_packet::Judged;
 use std::test::Fail;
@@ -31,7 +32,7 @@ fn faults_have_texts(rt: HostRuntime) -> Result<(), Fail> {
         ),
     ];
     for (fault, text) in texts {
-        assert_eq!(rt; fault.to_string(rt.alloc())?.as_str(), text);
+        assert_equal!(rt; fault.to_string(rt.alloc())?.as_str(), text);
     }
     Ok(())
 }

@@ -1,3 +1,4 @@
+use assertions::{assert_equal, assert_equal_at};
 use dts_base::{Field, Refused, WireCause};
 use ntp_packet::*;
 
@@ -167,8 +168,8 @@ fn each_field_stands_in_its_octets(rt: HostRuntime) {
     ];
     for (packet, offset, changed) in rows {
         let octets = octets_with(offset, changed);
-        assert_eq!(rt; decode(&octets), Ok(packet));
-        assert_eq!(rt; written_again(&octets), Some(octets));
+        assert_equal!(rt; decode(&octets), Ok(packet));
+        assert_equal!(rt; written_again(&octets), Some(octets));
     }
 }
 
@@ -182,7 +183,7 @@ fn octets_are_read_or_refused_at_the_first_wrong_field(rt: HostRuntime) {
             offset: length as u32,
             cause: WireCause::Short,
         };
-        assert_eq!(rt; read.err(), if whole { None } else { Some(short) });
+        assert_equal!(rt; read.err(), if whole { None } else { Some(short) });
     }
     let wrong = Refused {
         field: Field::NtpVersion,
@@ -193,9 +194,8 @@ fn octets_are_read_or_refused_at_the_first_wrong_field(rt: HostRuntime) {
         let mut octets = [0; PACKET_LENGTH];
         octets[0] = version * 8 + 0xc7;
         let right = version >= 1 && version <= 4;
-        assert_eq!(rt;
-            decode(&octets).err(),
-            if right { None } else { Some(wrong) }
+        assert_equal!(rt; decode(&octets).err(),
+            if right { None } else { Some(wrong) },
         );
     }
 }
@@ -216,7 +216,7 @@ fn fields_have_names_offsets_and_sizes(rt: HostRuntime) {
         ("transmit", 40, 8),
     ];
     for (field, line) in FIELDS.iter().zip(expected.iter()) {
-        assert_eq!(rt; (field.name(), field.offset(), field.size()), *line);
+        assert_equal!(rt; (field.name(), field.offset(), field.size()), *line);
     }
 }
 
@@ -399,7 +399,7 @@ fn a_reply_is_judged_by_the_first_test_that_fails(rt: HostRuntime) {
         ),
     ];
     for (packet, failed) in rows {
-        assert_eq!(rt; judge(&packet, 1).err(), failed, "of {packet:?}");
+        assert_equal_at!(rt; packet, judge(&packet, 1).err(), failed);
     }
 }
 
@@ -454,7 +454,7 @@ fn an_interval_is_rounded_outwards(rt: HostRuntime) {
         ),
     ];
     for (packet, ends) in rows {
-        assert_eq!(rt; interval(&packet, DAY), ends, "of {packet:?}");
+        assert_equal_at!(rt; packet, interval(&packet, DAY), ends);
     }
 }
 
@@ -558,17 +558,15 @@ fn the_era_is_the_nearest_and_the_lesser_of_two(rt: HostRuntime) {
         ),
     ];
     for (stamp, near, ends) in rows {
-        assert_eq!(rt;
+        assert_equal_at!(rt; (stamp, near),
             interval(&timed(0, 0, stamp, stamp), near),
             ends,
-            "of {stamp} near {near}"
         );
     }
     // Between receiving and sending an era ended.
     let across = timed(0, 0, 0xffff_ffff_0000_0000, 0x1_0000_0000);
-    assert_eq!(rt;
-        interval(&across, 143_052_712_960_000_000),
-        (143_052_712_970_000_000, 143_052_712_950_000_000)
+    assert_equal!(rt; interval(&across, 143_052_712_960_000_000),
+        (143_052_712_970_000_000, 143_052_712_950_000_000),
     );
 }
 

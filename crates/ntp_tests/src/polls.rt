@@ -1,5 +1,7 @@
+use assertions::assert_equal;
 use dts_base::{Field, Refused, WireCause};
 use ntp_packet::{Judged, PACKET_LENGTH};
+use std::io::Eprint;
 use std::process::Abort;
 use time_provider::*;
 
@@ -35,23 +37,23 @@ fn parts(t: &Triple) -> Parts {
 
 // Expects what a packet near the day gives.
 fn expect(
-    rt: &impl Abort,
+    rt: &(impl Abort + Eprint),
     p: &mut Provider,
     from: (u32, u64),
     octets: &[u8],
     expected: Result<Parts, ProviderFault>,
 ) {
     let taken = p.take(from.0, from.1, octets, DAY);
-    assert_eq!(rt; taken.map(|t| parts(&t)), expected);
+    assert_equal!(rt; taken.map(|t| parts(&t)), expected);
 }
 
 // Expects the times of a message.
-fn expect_times(rt: &impl Abort, p: &Provider, expected: &[Parts]) {
+fn expect_times(rt: &(impl Abort + Eprint), p: &Provider, expected: &[Parts]) {
     let message = p.message();
     let times = message.as_slice();
-    assert_eq!(rt; times.len(), expected.len());
+    assert_equal!(rt; times.len(), expected.len());
     for (t, e) in times.iter().zip(expected.iter()) {
-        assert_eq!(rt; parts(t), *e);
+        assert_equal!(rt; parts(t), *e);
     }
 }
 
@@ -67,29 +69,27 @@ fn a_poll_asks_each_peer_once(rt: HostRuntime) {
     let mut octets = [0; PACKET_LENGTH];
     octets[0] = 0x23;
     octets[47] = 1;
-    assert_eq!(rt;
-        queries.as_slice(),
+    assert_equal!(rt; queries.as_slice(),
         [Query {
             peer: 0,
-            packet: octets
+            packet: octets,
         }]
-        .as_slice()
+        .as_slice(),
     );
     // The word wraps, and 1 stands for 0.
     let mut p = Provider::new(&[9, 8, 7, 6, 5, 4]);
     let queries = p.poll(0, u64::MAX - 1);
     let origins = [u64::MAX - 1, u64::MAX, 1, 1, 2, 3];
-    assert_eq!(rt; queries.as_slice().len(), 6);
+    assert_equal!(rt; queries.as_slice().len(), 6);
     for (j, query) in queries.as_slice().iter().enumerate() {
-        assert_eq!(rt; query.peer as usize + j, 9);
+        assert_equal!(rt; query.peer as usize + j, 9);
         let origin = origins.get(j).copied().unwrap_or(0);
-        assert_eq!(rt;
-            query.packet.get(40..),
-            Some(origin.to_be_bytes().as_slice())
+        assert_equal!(rt; query.packet.get(40..),
+            Some(origin.to_be_bytes().as_slice()),
         );
     }
     let mut none = Provider::new(&[]);
-    assert_eq!(rt; none.poll(0, 1).as_slice().len(), 0);
+    assert_equal!(rt; none.poll(0, 1).as_slice().len(), 0);
 }
 
 // A packet of a peer at an oscillator reading, and what it gives.
@@ -231,9 +231,13 @@ fn an_interval_out_of_range_closes_the_query(rt: HostRuntime) {
         p.poll(0, 1);
         let mut octets = reply_at(1, stamp.to_be_bytes());
         octets[7] = delay;
-        assert_eq!(rt; p.take(3, 1, &octets, near).map(|t| parts(&t)), expected);
+        assert_equal!(rt; p.take(3, 1, &octets, near).map(|t| parts(&t)),
+            expected,
+        );
         expect(&rt, &mut p, (3, 2), &reply(1), Err(ProviderFault::NoQuery));
-        assert_eq!(rt; p.message().as_slice().len(), usize::from(expected.is_ok()));
+        assert_equal!(rt; p.message().as_slice().len(),
+            usize::from(expected.is_ok()),
+        );
     }
 }
 

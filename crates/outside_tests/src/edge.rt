@@ -1,8 +1,9 @@
+use assertions::{assert_at, assert_equal, assert_equal_at};
 use dts_base::{Failed, Sink, Source, write_all};
 use dts_edge::*;
 use std::alloc::{AllocError, Global};
 use std::fs::{self, File};
-use std::io::{self, ErrorKind, Read, Write};
+use std::io::{self, Eprint, ErrorKind, Read, Write};
 use std::process::Abort;
 use std::test::Fail;
 
@@ -130,12 +131,15 @@ fn a_reader_loses_doubles_and_hides_nothing(rt: HostRuntime) -> Result<(), Fail>
             most,
             steps,
         });
-        assert_eq!(rt; source.fault(), None, "no read failed yet");
+        assert_equal_at!(rt; "no read failed yet", source.fault(), None);
         let (read, failed) = drained(rt.alloc(), &mut source)?;
-        assert_eq!(rt; read, whole);
-        assert_eq!(rt; failed, faults);
-        assert_eq!(rt; source.read(&mut [0u8; 8]), Ok(0), "it stays at its end");
-        assert_eq!(rt; source.fault(), said, "the last fault is kept");
+        assert_equal!(rt; read.as_slice(), whole.as_slice());
+        assert_equal!(rt; failed, faults);
+        assert_equal_at!(rt; "it stays at its end",
+            source.read(&mut [0u8; 8]),
+            Ok(0),
+        );
+        assert_equal_at!(rt; "the last fault is kept", source.fault(), said);
     }
     Ok(())
 }
@@ -145,9 +149,9 @@ fn a_reader_gives_what_came_at_once(rt: HostRuntime) -> Result<(), Fail> {
     let whole = octets(rt.alloc())?;
     let mut source = ReaderSource::new(whole.as_slice());
     let mut buf = [0u8; 8192];
-    assert_eq!(rt; source.read(&mut buf), Ok(LENGTH));
+    assert_equal!(rt; source.read(&mut buf), Ok(LENGTH));
     assert!(rt; buf.starts_with(whole.as_slice()));
-    assert_eq!(rt; source.read(&mut buf), Ok(0));
+    assert_equal!(rt; source.read(&mut buf), Ok(0));
     Ok(())
 }
 
@@ -185,12 +189,12 @@ fn a_writer_loses_doubles_and_hides_nothing(rt: HostRuntime) -> Result<(), Fail>
             steps,
         };
         let mut sink = WriterSink::new(&mut writer);
-        assert_eq!(rt; sink.fault(), None, "no write failed yet");
+        assert_equal_at!(rt; "no write failed yet", sink.fault(), None);
         let outcome = write_all(&mut sink, whole.as_slice());
-        assert_eq!(rt; outcome.is_err(), said.is_some());
-        assert_eq!(rt; sink.write(b""), Ok(0), "nothing is nothing taken");
-        assert_eq!(rt; sink.fault(), said, "the last fault is kept");
-        assert_eq!(rt; writer.taken.len(), count);
+        assert_equal!(rt; outcome.is_err(), said.is_some());
+        assert_equal_at!(rt; "nothing is nothing taken", sink.write(b""), Ok(0));
+        assert_equal_at!(rt; "the last fault is kept", sink.fault(), said);
+        assert_equal!(rt; writer.taken.len(), count);
         assert!(rt; whole.starts_with(writer.taken.as_slice()));
     }
     Ok(())
@@ -198,15 +202,18 @@ fn a_writer_loses_doubles_and_hides_nothing(rt: HostRuntime) -> Result<(), Fail>
 
 // The source has these octets, and then its end.
 fn expect_octets<S: Source>(
-    rt: &impl Abort,
+    rt: &(impl Abort + Eprint),
     alloc: Global,
     source: &mut S,
     octets: &Vec<u8>,
 ) -> Result<(), Fail> {
     let (read, failed) = drained(alloc, source)?;
-    assert_eq!(rt; read.as_slice(), octets.as_slice());
-    assert_eq!(rt; failed, 0);
-    assert_eq!(rt; source.read(&mut [0u8; 8]), Ok(0), "it stays at its end");
+    assert_equal!(rt; read.as_slice(), octets.as_slice());
+    assert_equal!(rt; failed, 0);
+    assert_equal_at!(rt; "it stays at its end",
+        source.read(&mut [0u8; 8]),
+        Ok(0),
+    );
     Ok(())
 }
 
@@ -214,13 +221,19 @@ fn expect_octets<S: Source>(
 fn a_file_is_opened_at_its_first_use(rt: HostRuntime) -> Result<(), Fail> {
     let whole = octets(rt.alloc())?;
     let mut source = FileSource::new(&rt, "late.toml");
-    assert_eq!(rt; source.fault(), None);
-    assert_eq!(rt; source.read(&mut [0u8; 8]), Err(Failed), "it is not there");
-    assert_eq!(rt; source.fault(), Some(ErrorKind::NotFound));
+    assert_equal!(rt; source.fault(), None);
+    assert_equal_at!(rt; "it is not there",
+        source.read(&mut [0u8; 8]),
+        Err(Failed),
+    );
+    assert_equal!(rt; source.fault(), Some(ErrorKind::NotFound));
     let mut sink = WriterSink::new(fs::create(&rt, "late.toml")?);
-    assert_eq!(rt; write_all(&mut sink, whole.as_slice()), Ok(()));
+    assert_equal!(rt; write_all(&mut sink, whole.as_slice()), Ok(()));
     expect_octets(&rt, rt.alloc(), &mut source, &whole)?;
-    assert_eq!(rt; source.fault(), Some(ErrorKind::NotFound), "it is kept");
+    assert_equal_at!(rt; "it is kept",
+        source.fault(),
+        Some(ErrorKind::NotFound),
+    );
     let mut reader = ReaderSource::new(fs::open(&rt, "late.toml")?);
     expect_octets(&rt, rt.alloc(), &mut reader, &whole)
 }
@@ -230,10 +243,10 @@ fn a_folder_has_no_octets(rt: HostRuntime) -> Result<(), Fail> {
     let mut by_path = FileSource::new(&rt, ".");
     let mut opened = ReaderSource::new(fs::open(&rt, ".")?);
     for _ in 0..2 {
-        assert_eq!(rt; by_path.read(&mut [0u8; 8]), Err(Failed));
-        assert_eq!(rt; by_path.fault(), Some(ErrorKind::IsADirectory));
-        assert_eq!(rt; opened.read(&mut [0u8; 8]), Err(Failed));
-        assert_eq!(rt; opened.fault(), Some(ErrorKind::IsADirectory));
+        assert_equal!(rt; by_path.read(&mut [0u8; 8]), Err(Failed));
+        assert_equal!(rt; by_path.fault(), Some(ErrorKind::IsADirectory));
+        assert_equal!(rt; opened.read(&mut [0u8; 8]), Err(Failed));
+        assert_equal!(rt; opened.fault(), Some(ErrorKind::IsADirectory));
     }
     Ok(())
 }
@@ -243,7 +256,7 @@ fn a_pipe_gives_what_was_written_and_then_its_end(rt: HostRuntime) -> Result<(),
     let whole = octets(rt.alloc())?;
     let (reader, writer) = io::pipe(&rt)?;
     let mut sink = WriterSink::new(writer);
-    assert_eq!(rt; write_all(&mut sink, whole.as_slice()), Ok(()));
+    assert_equal!(rt; write_all(&mut sink, whole.as_slice()), Ok(()));
     drop(sink);
     expect_octets(&rt, rt.alloc(), &mut ReaderSource::new(reader), &whole)
 }
@@ -253,16 +266,16 @@ fn a_pipe_that_the_other_side_closed_fails(rt: HostRuntime) -> Result<(), Fail> 
     let (reader, writer) = io::pipe(&rt)?;
     drop(reader);
     let mut sink = WriterSink::new(writer);
-    assert_eq!(rt; sink.write(b"x"), Err(Failed));
-    assert_eq!(rt; sink.fault(), Some(ErrorKind::BrokenPipe));
+    assert_equal!(rt; sink.write(b"x"), Err(Failed));
+    assert_equal!(rt; sink.fault(), Some(ErrorKind::BrokenPipe));
     Ok(())
 }
 
 #[test]
 fn a_device_that_is_full_fails(rt: HostRuntime) -> Result<(), Fail> {
     let mut sink = WriterSink::new(File::options().write(true).open(&rt, "/dev/full")?);
-    assert_eq!(rt; sink.write(b"x"), Err(Failed));
-    assert_eq!(rt; sink.fault(), Some(ErrorKind::StorageFull));
+    assert_equal!(rt; sink.write(b"x"), Err(Failed));
+    assert_equal!(rt; sink.fault(), Some(ErrorKind::StorageFull));
     Ok(())
 }
 
@@ -270,7 +283,7 @@ fn a_device_that_is_full_fails(rt: HostRuntime) -> Result<(), Fail> {
 fn a_file_that_is_open_for_reading_takes_nothing(rt: HostRuntime) -> Result<(), Fail> {
     fs::write(&rt, "read.toml", "x")?;
     let mut sink = WriterSink::new(fs::open(&rt, "read.toml")?);
-    assert_eq!(rt; sink.write(b"x"), Err(Failed));
-    assert!(rt; sink.fault().is_some(), "the system said why");
+    assert_equal!(rt; sink.write(b"x"), Err(Failed));
+    assert_at!(rt; "the system said why", sink.fault().is_some());
     Ok(())
 }

@@ -1,7 +1,9 @@
 ghost use Rattle.std.specs.Prelude.{None};
 
+use assertions::{assert_equal, assert_equal_at};
 use dts_base::{Failed, MemorySource, Source};
 use line_reader::*;
+use std::io::Eprint;
 use std::process::Abort;
 use std::test::Fail;
 
@@ -37,14 +39,19 @@ impl Source for Pieces<'_> {
     }
 }
 
-fn expect_line<I: Source>(rt: &impl Abort, reader: &mut LineReader, input: &mut I, line: &[u8]) {
-    assert_eq!(rt; reader.advance(input), Ok(true));
-    assert_eq!(rt; reader.line(), line);
+fn expect_line<I: Source>(
+    rt: &(impl Abort + Eprint),
+    reader: &mut LineReader,
+    input: &mut I,
+    line: &[u8],
+) {
+    assert_equal!(rt; reader.advance(input), Ok(true));
+    assert_equal!(rt; reader.line(), line);
 }
 
-fn expect_end<I: Source>(rt: &impl Abort, reader: &mut LineReader, input: &mut I) {
-    assert_eq!(rt; reader.advance(input), Ok(false));
-    assert_eq!(rt; reader.advance(input), Ok(false), "once more");
+fn expect_end<I: Source>(rt: &(impl Abort + Eprint), reader: &mut LineReader, input: &mut I) {
+    assert_equal!(rt; reader.advance(input), Ok(false));
+    assert_equal_at!(rt; "once more", reader.advance(input), Ok(false));
 }
 
 #[test]
@@ -132,14 +139,13 @@ fn an_input_may_be_longer_than_the_buffer(rt: HostRuntime) -> Result<(), Fail> {
 fn a_failed_read_loses_nothing(rt: HostRuntime) -> Result<(), Fail> {
     let mut source = MemorySource::new(rt.alloc(), b"one\ntwo", &[1, 3])?;
     let mut reader = LineReader::new(rt.alloc())?;
-    assert_eq!(rt; reader.advance(&mut source), Err(Failed));
+    assert_equal!(rt; reader.advance(&mut source), Err(Failed));
     expect_line(&rt, &mut reader, &mut source, b"one");
-    assert_eq!(rt;
+    assert_equal_at!(rt; "behind the octets of a line",
         reader.advance(&mut source),
         Err(Failed),
-        "behind the octets of a line"
     );
-    assert_eq!(rt; reader.line(), b"".as_slice());
+    assert_equal!(rt; reader.line(), b"".as_slice());
     expect_line(&rt, &mut reader, &mut source, b"two");
     expect_end(&rt, &mut reader, &mut source);
     Ok(())
@@ -151,18 +157,18 @@ fn a_source_that_has_ended_is_read_no_more(rt: HostRuntime) -> Result<(), Fail> 
     let mut reader = LineReader::new(rt.alloc())?;
     expect_line(&rt, &mut reader, &mut source, b"one");
     expect_line(&rt, &mut reader, &mut source, b"two");
-    assert_eq!(rt; source.calls, 2, "the second gave nothing");
+    assert_equal_at!(rt; "the second gave nothing", source.calls, 2);
     source.octets = b"three\n";
     expect_end(&rt, &mut reader, &mut source);
-    assert_eq!(rt; source.calls, 2);
-    assert_eq!(rt; reader.line(), b"".as_slice());
+    assert_equal!(rt; source.calls, 2);
+    assert_equal!(rt; reader.line(), b"".as_slice());
     Ok(())
 }
 
 #[test]
 fn limits_are_these(rt: HostRuntime) -> Result<(), Fail> {
-    assert_eq!(rt; MAX_LINE, 16_384);
-    assert_eq!(rt; MAX_LINES, 4_294_967_295);
+    assert_equal!(rt; MAX_LINE, 16_384);
+    assert_equal!(rt; MAX_LINES, 4_294_967_295);
     Ok(())
 }
 
@@ -181,12 +187,12 @@ fn fields_stand_at_columns(rt: HostRuntime) -> Result<(), Fail> {
     for (line, expected, end) in rows {
         let mut fields = Fields::new(line);
         for (field, column) in expected {
-            assert_eq!(rt; fields.next(), Some(*field));
-            assert_eq!(rt; fields.column(), *column);
+            assert_equal!(rt; fields.next(), Some(*field));
+            assert_equal!(rt; fields.column(), *column);
         }
         for _ in 0..2 {
-            assert_eq!(rt; fields.next(), None);
-            assert_eq!(rt; fields.column(), end);
+            assert_equal!(rt; fields.next(), None);
+            assert_equal!(rt; fields.column(), end);
         }
     }
     Ok(())
@@ -239,23 +245,23 @@ fn numbers_are_decimal_and_in_their_range(rt: HostRuntime) -> Result<(), Fail> {
         ),
     ];
     for (field, expected) in rows {
-        assert_eq!(rt; number_in(field, -20, 1000), expected);
+        assert_equal!(rt; number_in(field, -20, 1000), expected);
     }
     let widest = number_in(
         b"-170141183460469231731687303715884105728",
         i128::MIN,
         i128::MAX,
     );
-    assert_eq!(rt; widest, Ok(i128::MIN));
+    assert_equal!(rt; widest, Ok(i128::MIN));
     let widest = number_in(
         b"170141183460469231731687303715884105727",
         i128::MIN,
         i128::MAX,
     );
-    assert_eq!(rt; widest, Ok(i128::MAX));
+    assert_equal!(rt; widest, Ok(i128::MAX));
     let form = format!(in rt.alloc(); "{}", NumberFault::Form)?;
-    assert_eq!(rt; form.as_str(), "no decimal number");
+    assert_equal!(rt; form.as_str(), "no decimal number");
     let range = format!(in rt.alloc(); "{}", NumberFault::Range)?;
-    assert_eq!(rt; range.as_str(), "a number out of range");
+    assert_equal!(rt; range.as_str(), "a number out of range");
     Ok(())
 }

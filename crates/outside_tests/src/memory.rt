@@ -1,3 +1,4 @@
+use assertions::{assert_equal, assert_equal_at};
 use dts_base::*;
 use std::test::Fail;
 
@@ -10,11 +11,11 @@ const ADDRESS: Address = Address {
 fn octets_are_kept(rt: HostRuntime) -> Result<(), Fail> {
     let bytes = Bytes::from_slice(rt.alloc(), b"abc")?;
     let text = Text::from_slice(rt.alloc(), bytes.as_slice())?;
-    assert_eq!(rt; text.as_slice(), b"abc".as_slice());
+    assert_equal!(rt; text.as_slice(), b"abc".as_slice());
     let text = Text::from_vec(bytes.into_vec());
-    assert_eq!(rt; text.as_slice(), b"abc".as_slice());
+    assert_equal!(rt; text.as_slice(), b"abc".as_slice());
     let bytes = Bytes::from_vec(text.into_vec());
-    assert_eq!(rt; bytes.as_slice(), b"abc".as_slice());
+    assert_equal!(rt; bytes.as_slice(), b"abc".as_slice());
     Ok(())
 }
 
@@ -31,16 +32,14 @@ fn octets_are_compared(rt: HostRuntime) -> Result<(), Fail> {
         );
     }
     let bytes = Bytes::from_slice(rt.alloc(), b"abc")?;
-    assert_eq!(rt;
-        Sent { peer: 1, bytes },
+    assert_equal!(rt; Sent { peer: 1, bytes },
         Sent {
             peer: 1,
-            bytes: Bytes::from_slice(rt.alloc(), b"abc")?
-        }
+            bytes: Bytes::from_slice(rt.alloc(), b"abc")?,
+        },
     );
-    assert_eq!(rt;
+    assert_equal!(rt; Text::from_slice(rt.alloc(), b"")?,
         Text::from_slice(rt.alloc(), b"")?,
-        Text::from_slice(rt.alloc(), b"")?
     );
     Ok(())
 }
@@ -49,22 +48,25 @@ fn octets_are_compared(rt: HostRuntime) -> Result<(), Fail> {
 fn a_source_is_read_in_pieces_to_its_end(rt: HostRuntime) -> Result<(), Fail> {
     let mut source = MemorySource::new(rt.alloc(), b"hello", &[2])?;
     let mut buf = [0u8; 3];
-    assert_eq!(rt; source.read(&mut buf), Ok(3));
-    assert_eq!(rt; buf, *b"hel");
-    assert_eq!(rt; source.read(&mut buf), Err(Failed), "the second call fails");
-    assert_eq!(rt; source.read(&mut buf), Ok(2), "and has read nothing");
-    assert_eq!(rt; source.read(&mut buf), Ok(0));
+    assert_equal!(rt; source.read(&mut buf), Ok(3));
+    assert_equal!(rt; buf, *b"hel");
+    assert_equal_at!(rt; "the second call fails",
+        source.read(&mut buf),
+        Err(Failed),
+    );
+    assert_equal_at!(rt; "and has read nothing", source.read(&mut buf), Ok(2));
+    assert_equal!(rt; source.read(&mut buf), Ok(0));
     Ok(())
 }
 
 #[test]
 fn a_failing_sink_keeps_what_was_written(rt: HostRuntime) -> Result<(), Fail> {
     let mut sink = MemorySink::new(rt.alloc(), &[2])?;
-    assert_eq!(rt; write_all(&mut sink, b"one"), Ok(()));
-    assert_eq!(rt; write_all(&mut sink, b"two"), Err(Failed));
-    assert_eq!(rt; write_all(&mut sink, b"three"), Ok(()));
-    assert_eq!(rt; sink.written(), b"onethree".as_slice());
-    assert_eq!(rt; sink.starved(), 0);
+    assert_equal!(rt; write_all(&mut sink, b"one"), Ok(()));
+    assert_equal!(rt; write_all(&mut sink, b"two"), Err(Failed));
+    assert_equal!(rt; write_all(&mut sink, b"three"), Ok(()));
+    assert_equal!(rt; sink.written(), b"onethree".as_slice());
+    assert_equal!(rt; sink.starved(), 0);
     Ok(())
 }
 
@@ -74,12 +76,12 @@ fn numbers_of_a_script_are_given_once_and_the_last_again(rt: HostRuntime) -> Res
     let mut osc = MemoryOscillator::new(rt.alloc(), &script)?;
     let mut words = MemoryWords::new(rt.alloc(), &script)?;
     for number in [0, MAX_OSC, 7, 7, 7] {
-        assert_eq!(rt; osc.read(), number);
-        assert_eq!(rt; words.next(), number);
+        assert_equal!(rt; osc.read(), number);
+        assert_equal!(rt; words.next(), number);
     }
-    assert_eq!(rt; MemoryOscillator::new(rt.alloc(), &[])?.read(), 0);
-    assert_eq!(rt; MemoryWords::new(rt.alloc(), &[])?.next(), 0);
-    assert_eq!(rt; MAX_OSC, 1_152_921_504_606_846_976);
+    assert_equal!(rt; MemoryOscillator::new(rt.alloc(), &[])?.read(), 0);
+    assert_equal!(rt; MemoryWords::new(rt.alloc(), &[])?.next(), 0);
+    assert_equal!(rt; MAX_OSC, 1_152_921_504_606_846_976);
     Ok(())
 }
 
@@ -104,17 +106,20 @@ fn a_link_gives_its_script(rt: HostRuntime) -> Result<(), Fail> {
     ]?;
     let mut link = MemoryLink::new(rt.alloc(), script, &[], &[])?;
     let mut buf = [0u8; 3];
-    assert_eq!(rt; link.poll(&mut buf), Arrival::Bytes { peer: 1, len: 3 });
-    assert_eq!(rt; buf, *b"hel");
-    assert_eq!(rt; link.poll(&mut buf), Arrival::Bytes { peer: 1, len: 2 });
-    assert_eq!(rt; &buf[..2], b"lo".as_slice());
-    assert_eq!(rt; link.poll(&mut buf), Arrival::Nothing);
-    assert_eq!(rt; link.poll(&mut buf), Arrival::Gram { peer: 2, len: 3 });
-    assert_eq!(rt; buf, *b"dat");
-    assert_eq!(rt; link.poll(&mut buf), Arrival::Gram { peer: 2, len: 0 });
-    assert_eq!(rt; link.poll(&mut buf), Arrival::Lost { peer: 1 });
-    assert_eq!(rt; link.poll(&mut buf), Arrival::Ended);
-    assert_eq!(rt; link.poll(&mut buf), Arrival::Nothing, "past its script");
+    assert_equal!(rt; link.poll(&mut buf), Arrival::Bytes { peer: 1, len: 3 });
+    assert_equal!(rt; buf, *b"hel");
+    assert_equal!(rt; link.poll(&mut buf), Arrival::Bytes { peer: 1, len: 2 });
+    assert_equal!(rt; &buf[..2], b"lo".as_slice());
+    assert_equal!(rt; link.poll(&mut buf), Arrival::Nothing);
+    assert_equal!(rt; link.poll(&mut buf), Arrival::Gram { peer: 2, len: 3 });
+    assert_equal!(rt; buf, *b"dat");
+    assert_equal!(rt; link.poll(&mut buf), Arrival::Gram { peer: 2, len: 0 });
+    assert_equal!(rt; link.poll(&mut buf), Arrival::Lost { peer: 1 });
+    assert_equal!(rt; link.poll(&mut buf), Arrival::Ended);
+    assert_equal_at!(rt; "past its script",
+        link.poll(&mut buf),
+        Arrival::Nothing,
+    );
     Ok(())
 }
 
@@ -122,22 +127,21 @@ fn a_link_gives_its_script(rt: HostRuntime) -> Result<(), Fail> {
 fn a_link_keeps_lists_and_fails_at_the_calls_of_its_lists(rt: HostRuntime) -> Result<(), Fail> {
     let mut link = MemoryLink::new(rt.alloc(), Vec::new(rt.alloc()), &[2], &[1])?;
     link.place(1, PeerKind::Gram, ADDRESS);
-    assert_eq!(rt; link.send(1, b"lost"), Err(Failed));
-    assert_eq!(rt; link.listen(1000, ADDRESS), Ok(()));
-    assert_eq!(rt;
+    assert_equal!(rt; link.send(1, b"lost"), Err(Failed));
+    assert_equal!(rt; link.listen(1000, ADDRESS), Ok(()));
+    assert_equal_at!(rt; "each kind is numbered alone",
         link.send(1, b"query"),
         Ok(()),
-        "each kind is numbered alone"
     );
-    assert_eq!(rt; link.listen(1001, ADDRESS), Err(Failed));
-    assert_eq!(rt; link.listen(1002, ADDRESS), Ok(()));
+    assert_equal!(rt; link.listen(1001, ADDRESS), Err(Failed));
+    assert_equal!(rt; link.listen(1002, ADDRESS), Ok(()));
     link.close(1);
     let place = Place {
         peer: 1,
         kind: PeerKind::Gram,
         address: ADDRESS,
     };
-    assert_eq!(rt; link.places(), [place].as_slice());
+    assert_equal!(rt; link.places(), [place].as_slice());
     let first = Served {
         first: 1000,
         address: ADDRESS,
@@ -146,18 +150,18 @@ fn a_link_keeps_lists_and_fails_at_the_calls_of_its_lists(rt: HostRuntime) -> Re
         first: 1002,
         address: ADDRESS,
     };
-    assert_eq!(rt; link.served(), [first, second].as_slice());
+    assert_equal!(rt; link.served(), [first, second].as_slice());
     let bytes = Bytes::from_slice(rt.alloc(), b"query")?;
-    assert_eq!(rt; link.sent(), [Sent { peer: 1, bytes }].as_slice());
-    assert_eq!(rt; link.closed(), [1].as_slice());
-    assert_eq!(rt; link.starved(), 0);
+    assert_equal!(rt; link.sent(), [Sent { peer: 1, bytes }].as_slice());
+    assert_equal!(rt; link.closed(), [1].as_slice());
+    assert_equal!(rt; link.starved(), 0);
     Ok(())
 }
 
 #[test]
 fn faults_have_texts(rt: HostRuntime) -> Result<(), Fail> {
     let text = format!(in rt.alloc(); "{}, {}", Failed, NoMemory)?;
-    assert_eq!(rt; text.as_str(), "the call failed, out of memory");
+    assert_equal!(rt; text.as_str(), "the call failed, out of memory");
     Ok(())
 }
 
@@ -181,7 +185,7 @@ fn an_address_is_read_from_its_text_alone(rt: HostRuntime) {
         ),
     ];
     for (text, address) in right {
-        assert_eq!(rt; Address::parse(text), Some(address));
+        assert_equal!(rt; Address::parse(text), Some(address));
     }
     let wrong = [
         "",
@@ -204,7 +208,7 @@ fn an_address_is_read_from_its_text_alone(rt: HostRuntime) {
         "localhost:7000",
     ];
     for text in wrong {
-        assert_eq!(rt; Address::parse(text), None);
+        assert_equal!(rt; Address::parse(text), None);
     }
 }
 
@@ -262,7 +266,7 @@ fn fields_causes_and_states_have_names(rt: HostRuntime) -> Result<(), Fail> {
         (Field::Input, "input"),
     ];
     for (field, name) in fields {
-        assert_eq!(rt; field.name(), name);
+        assert_equal!(rt; field.name(), name);
     }
     let causes = [
         (WireCause::Short, "short"),
@@ -271,7 +275,7 @@ fn fields_causes_and_states_have_names(rt: HostRuntime) -> Result<(), Fail> {
         (WireCause::Long, "long"),
     ];
     for (cause, name) in causes {
-        assert_eq!(rt; cause.name(), name);
+        assert_equal!(rt; cause.name(), name);
     }
     let states = [
         (State::New, "new"),
@@ -282,17 +286,16 @@ fn fields_causes_and_states_have_names(rt: HostRuntime) -> Result<(), Fail> {
         (State::Dead, "dead"),
     ];
     for (state, name) in states {
-        assert_eq!(rt; state.name(), name);
-        assert_eq!(rt; state.to_string(rt.alloc())?.as_str(), name);
+        assert_equal!(rt; state.name(), name);
+        assert_equal!(rt; state.to_string(rt.alloc())?.as_str(), name);
     }
     let refused = Refused {
         field: Field::Status,
         offset: 4,
         cause: WireCause::Short,
     };
-    assert_eq!(rt;
-        refused.to_string(rt.alloc())?.as_str(),
-        "status at octet 4: short"
+    assert_equal!(rt; refused.to_string(rt.alloc())?.as_str(),
+        "status at octet 4: short",
     );
     Ok(())
 }

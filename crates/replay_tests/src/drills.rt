@@ -1,12 +1,14 @@
+use assertions::{assert_equal, assert_equal_at};
 use dts_base::MemorySink;
 use event_drill::{DrillStop, MAX_EVENTS, drill};
 use std::alloc::Global;
+use std::io::Eprint;
 use std::process::Abort;
 use std::test::Fail;
 
 // Drills into memory, with a sink that fails at the calls of these numbers, and compares the end and the line.
 fn judge(
-    rt: &impl Abort,
+    rt: &(impl Abort + Eprint),
     alloc: Global,
     seed: u32,
     events: u16,
@@ -16,12 +18,8 @@ fn judge(
 ) -> Result<(), Fail> {
     let mut output = MemorySink::new(alloc, fail)?;
     let got = drill(alloc, seed, u32::from(events), &mut output);
-    assert_eq!(rt; got, ended, "the end of drill {seed} {events}");
-    assert_eq!(rt;
-        output.written(),
-        line.as_bytes(),
-        "the line of drill {seed} {events}"
-    );
+    assert_equal_at!(rt; (seed, events), got, ended);
+    assert_equal_at!(rt; (seed, events), output.written(), line.as_bytes());
     Ok(())
 }
 
@@ -58,9 +56,9 @@ fn drills_give_their_summaries(rt: HostRuntime) -> Result<(), Fail> {
 #[test]
 fn a_million_events_give_their_summary(rt: HostRuntime) -> Result<(), Fail> {
     let mut output = MemorySink::new(rt.alloc(), &[])?;
-    assert_eq!(rt; drill(rt.alloc(), 7, MAX_EVENTS, &mut output), Ok(()));
+    assert_equal!(rt; drill(rt.alloc(), 7, MAX_EVENTS, &mut output), Ok(()));
     let line =
         "drill seed 7 events 1000000 records 61433 steps 1928 readings 324461 unspecified 0 adopted 35644 split 689 short 0 false 14987\n";
-    assert_eq!(rt; output.written(), line.as_bytes());
+    assert_equal!(rt; output.written(), line.as_bytes());
     Ok(())
 }

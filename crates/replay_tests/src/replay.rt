@@ -1,9 +1,11 @@
+use assertions::{assert_equal, assert_equal_at};
 use capture_replay::{CaptureFault, replay};
 use dts_base::{MemorySink, MemorySource};
 use dts_capture::LineCause;
 use line_filter::Stop;
 use slew_clock::Rates;
 use std::alloc::Global;
+use std::io::Eprint;
 use std::process::Abort;
 use std::test::Fail;
 
@@ -17,12 +19,18 @@ fn refused(line: u64, column: u32, cause: LineCause) -> Ended {
 }
 
 // Replays the lines, and compares the end and the log.
-fn judge(rt: &impl Abort, alloc: Global, lines: &str, ended: Ended, log: &str) -> Result<(), Fail> {
+fn judge(
+    rt: &(impl Abort + Eprint),
+    alloc: Global,
+    lines: &str,
+    ended: Ended,
+    log: &str,
+) -> Result<(), Fail> {
     let mut input = MemorySource::new(alloc, lines.as_bytes(), &[])?;
     let mut output = MemorySink::new(alloc, &[])?;
     let got = replay(alloc, Rates::usual(), &mut input, &mut output);
-    assert_eq!(rt; got, ended, "the end of {lines:?}");
-    assert_eq!(rt; output.written(), log.as_bytes(), "the log of {lines:?}");
+    assert_equal_at!(rt; lines, got, ended);
+    assert_equal_at!(rt; lines, output.written(), log.as_bytes());
     Ok(())
 }
 
@@ -94,8 +102,8 @@ fn captures_give_their_logs(rt: HostRuntime) -> Result<(), Fail> {
         let mut input = MemorySource::new(rt.alloc(), lines.as_bytes(), &[read])?;
         let mut output = MemorySink::new(rt.alloc(), &[write])?;
         let got = replay(rt.alloc(), Rates::usual(), &mut input, &mut output);
-        assert_eq!(rt; got, ended, "where read {read} and write {write} fail");
-        assert_eq!(rt; output.written(), log.as_bytes());
+        assert_equal_at!(rt; (read, write), got, ended);
+        assert_equal!(rt; output.written(), log.as_bytes());
     }
     Ok(())
 }
@@ -262,7 +270,7 @@ fn a_line_has_at_most_16384_octets(rt: HostRuntime) -> Result<(), Fail> {
         let mut input = MemorySource::new(rt.alloc(), lines.as_slice(), &[])?;
         let mut output = MemorySink::new(rt.alloc(), &[])?;
         let got = replay(rt.alloc(), Rates::usual(), &mut input, &mut output);
-        assert_eq!(rt; got, ended, "at {length}");
+        assert_equal_at!(rt; length, got, ended);
     }
     Ok(())
 }
@@ -274,6 +282,6 @@ fn faults_have_their_texts(rt: HostRuntime) -> Result<(), Fail> {
         cause: LineCause::Number,
     };
     let text = "column 7: a decimal number without leading zeros should stand here";
-    assert_eq!(rt; format!(in rt.alloc(); "{fault}")?.as_str(), text);
+    assert_equal!(rt; format!(in rt.alloc(); "{fault}")?.as_str(), text);
     Ok(())
 }

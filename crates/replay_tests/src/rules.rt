@@ -1,3 +1,4 @@
+use assertions::assert_at;
 use dts_base::Interval;
 use slew_clock::{Rates, read_at, start};
 use std::test::Fail;
@@ -32,9 +33,8 @@ fn a_reading_excludes_true_time_in_worlds_that_are_not_honest(rt: HostRuntime) -
             .ok()
             .ok_or("it is live")?;
         let inaccuracy = reading.inaccuracy.ok_or("it is specified")? as i64;
-        assert!(rt;
+        assert_at!(rt; why,
             reading.value.abs_diff(true_time) > inaccuracy as u64,
-            "{why}"
         );
     }
     Ok(())

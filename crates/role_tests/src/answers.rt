@@ -2,6 +2,7 @@
 
 ghost use Rattle.std.specs.Prelude.{◌≤◌};
 
+use assertions::{assert_equal, assert_equal_at};
 use dts_base::{Field, Refused, WireCause};
 use ndr::Endian;
 use roster::Roster;
@@ -154,7 +155,7 @@ static STUBS: [(Node, u16, Endian, &[u8], &[u8]); 9] = [
 fn the_time_and_the_settings_are_told_octet_by_octet(rt: HostRuntime) -> Result<(), Fail> {
     for (node, opnum, e, asked, right) in STUBS {
         let found = told(rt.alloc(), node, opnum.min(COMMAND), asked, e)?;
-        assert_eq!(rt; found.as_slice(), right);
+        assert_equal!(rt; found.as_slice(), right);
     }
     Ok(())
 }
@@ -204,8 +205,8 @@ fn commands_are_answered_with_texts(rt: HostRuntime) -> Result<(), Fail> {
     for e in [Endian::Big, Endian::Little] {
         for (node, command, right, status) in TEXTS {
             let reply = told_text(rt.alloc(), node, command, e)?;
-            assert_eq!(rt; reply.text.as_slice(), right.as_bytes());
-            assert_eq!(rt; reply.status, status, "{command}");
+            assert_equal!(rt; reply.text.as_slice(), right.as_bytes());
+            assert_equal_at!(rt; command, reply.status, status);
         }
     }
     Ok(())
@@ -337,7 +338,7 @@ fn a_stub_is_refused_at_its_first_wrong_field(rt: HostRuntime) -> Result<(), Fai
             offset,
             cause,
         };
-        assert_eq!(rt; found, Answer::Wrong(right));
+        assert_equal!(rt; found, Answer::Wrong(right));
     }
     Ok(())
 }

@@ -1,5 +1,6 @@
 //! The interval that a node's own clock brings into a round.
 
+use assertions::assert_equal;
 use dts_base::Interval;
 use roster::Roster;
 use server_roles::own_source;
@@ -34,10 +35,10 @@ fn a_server_brings_the_interval_of_its_clock(rt: HostRuntime) -> Result<(), Fail
         lo: 999_000,
         hi: 1_001_001,
     };
-    assert_eq!(rt; brought(alloc, "server", Some(anchor))?, Some(own));
-    assert_eq!(rt; brought(alloc, "clerk", Some(anchor))?, None);
-    assert_eq!(rt; brought(alloc, "server", None)?, None);
-    assert_eq!(rt; brought(alloc, "clerk", None)?, None);
+    assert_equal!(rt; brought(alloc, "server", Some(anchor))?, Some(own));
+    assert_equal!(rt; brought(alloc, "clerk", Some(anchor))?, None);
+    assert_equal!(rt; brought(alloc, "server", None)?, None);
+    assert_equal!(rt; brought(alloc, "clerk", None)?, None);
     Ok(())
 }
 
@@ -52,7 +53,7 @@ fn its_high_end_is_at_most_the_greatest_anchor(rt: HostRuntime) -> Result<(), Fa
         lo: 0,
         hi: GREATEST_ANCHOR,
     };
-    assert_eq!(rt; brought(alloc, "server", Some(below))?, Some(at));
-    assert_eq!(rt; brought(alloc, "server", Some(at))?, None);
+    assert_equal!(rt; brought(alloc, "server", Some(below))?, Some(at));
+    assert_equal!(rt; brought(alloc, "server", Some(at))?, None);
     Ok(())
 }

@@ -1,6 +1,7 @@
 //! Whom a round asks, over every combination of settings, rounds and rosters, against a plain statement over the servers'
 //! names.
 
+use assertions::{assert_equal, assert_equal_at};
 use roster::Roster;
 use server_roles::sources;
 use std::alloc::Global;
@@ -146,7 +147,7 @@ fn every_round_asks_whom_the_settings_say(rt: HostRuntime) -> Result<(), Fail> {
                         for last in [required - 1, required, required + 1] {
                             let asked = found(alloc, node, servers, round, last)?;
                             let right = wanted(alloc, node, servers, round, last)?;
-                            assert_eq!(rt; asked.as_slice(), right.as_slice());
+                            assert_equal!(rt; asked.as_slice(), right.as_slice());
                             tried = tried.saturating_add(1);
                         }
                     }
@@ -154,7 +155,7 @@ fn every_round_asks_whom_the_settings_say(rt: HostRuntime) -> Result<(), Fail> {
             }
         }
     }
-    assert_eq!(rt; tried, 864);
+    assert_equal!(rt; tried, 864);
     Ok(())
 }
 
@@ -176,7 +177,7 @@ fn the_worked_rounds_of_a_courier(rt: HostRuntime) -> Result<(), Fail> {
     ];
     for (round, last, right) in rows {
         let asked = found(rt.alloc(), courier, ROSTERS[3], round, last)?;
-        assert_eq!(rt; asked.as_slice(), right, "round {round} after {last}");
+        assert_equal_at!(rt; (round, last), asked.as_slice(), right);
     }
     Ok(())
 }

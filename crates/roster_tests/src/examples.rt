@@ -1,8 +1,10 @@
 //! The rosters of `examples/rosters`, word for word.
 
+use assertions::assert_equal;
 use roster::*;
 use server_roles::sources;
 use std::alloc::Global;
+use std::io::Eprint;
 use std::process::Abort;
 use std::test::Fail;
 
@@ -16,10 +18,15 @@ const NTP: &str =
     "# A clerk that asks NTP servers. Where a roster has one of these, it asks them alone.\n[node]\nname = \"gate\"\nrequired = 2\n\n[[server]]\nname = \"ntp-1\"\nkind = \"ntp\"\naddress = \"192.0.2.1:123\"\n\n[[server]]\nname = \"ntp-2\"\nkind = \"ntp\"\naddress = \"192.0.2.2:123\"\n\n[[server]]\nname = \"ntp-3\"\nkind = \"ntp\"\naddress = \"192.0.2.3:123\"\n";
 
 // Whom the first round of a roster asks.
-fn expect(rt: &impl Abort, alloc: Global, text: &str, asked: &[u32]) -> Result<(), Fail> {
+fn expect(
+    rt: &(impl Abort + Eprint),
+    alloc: Global,
+    text: &str,
+    asked: &[u32],
+) -> Result<(), Fail> {
     let roster = Roster::read(alloc, text.as_bytes())?;
     let peers = sources(alloc, &roster, 1, 0)?;
-    assert_eq!(rt; peers.as_slice(), asked);
+    assert_equal!(rt; peers.as_slice(), asked);
     Ok(())
 }
 

@@ -2,6 +2,7 @@
 
 use crate::verdicts::expect;
 use std::alloc::Global;
+use std::io::Eprint;
 use std::process::Abort;
 use std::test::Fail;
 
@@ -36,7 +37,7 @@ const NODE_KEYS: [(&str, &str); 14] = [
 
 // A text with a value at its place `@`, which is of another kind than the key's.
 fn expect_kind(
-    rt: &impl Abort,
+    rt: &(impl Abort + Eprint),
     alloc: Global,
     front: &str,
     key: &str,
@@ -50,7 +51,7 @@ fn expect_kind(
 
 // A key with a value of each kind but its own.
 fn expect_one_kind(
-    rt: &impl Abort,
+    rt: &(impl Abort + Eprint),
     alloc: Global,
     front: &str,
     key: &str,

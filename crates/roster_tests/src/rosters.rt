@@ -1,6 +1,8 @@
 use crate::verdicts::{expect, expect_of_line};
+use assertions::assert_equal;
 use roster::*;
 use std::alloc::Global;
+use std::io::Eprint;
 use std::process::Abort;
 use std::test::Fail;
 
@@ -199,22 +201,22 @@ fn the_limits_are_exact(rt: HostRuntime) -> Result<(), Fail> {
     expect(&rt, rt.alloc(), text.as_slice(), ": Long")
 }
 
-fn expect_defaults(rt: &impl Abort, roster: &Roster) {
+fn expect_defaults(rt: &(impl Abort + Eprint), roster: &Roster) {
     let s = roster.settings();
-    assert_eq!(rt; s.name.as_slice(), b"node".as_slice());
-    assert_eq!(rt; s.role, Role::Clerk);
-    assert_eq!(rt; (s.courier, s.epoch, s.required), (false, 0, 1));
-    assert_eq!(rt; (s.listen.ip, s.listen.port), ([127, 0, 0, 1], 7000));
-    assert_eq!(rt; s.period, 6_000_000_000);
-    assert_eq!(rt; s.hold, 600_000_000);
-    assert_eq!(rt; s.timeout, 50_000_000);
-    assert_eq!(rt; s.max_inaccuracy, 10_000_000);
+    assert_equal!(rt; s.name.as_slice(), b"node".as_slice());
+    assert_equal!(rt; s.role, Role::Clerk);
+    assert_equal!(rt; (s.courier, s.epoch, s.required), (false, 0, 1));
+    assert_equal!(rt; (s.listen.ip, s.listen.port), ([127, 0, 0, 1], 7000));
+    assert_equal!(rt; s.period, 6_000_000_000);
+    assert_equal!(rt; s.hold, 600_000_000);
+    assert_equal!(rt; s.timeout, 50_000_000);
+    assert_equal!(rt; s.max_inaccuracy, 10_000_000);
 }
 
-fn expect_alone(rt: &impl Abort, roster: &Roster) {
-    assert_eq!(rt; roster.rates(), slew_clock::Rates::usual());
-    assert_eq!(rt; roster.servers(), 0);
-    assert_eq!(rt; roster.server(0), None);
+fn expect_alone(rt: &(impl Abort + Eprint), roster: &Roster) {
+    assert_equal!(rt; roster.rates(), slew_clock::Rates::usual());
+    assert_equal!(rt; roster.servers(), 0);
+    assert_equal!(rt; roster.server(0), None);
 }
 
 #[test]

@@ -1,12 +1,14 @@
+use assertions::assert_equal;
 use roster::*;
 use server_roles::sources;
 use std::alloc::Global;
+use std::io::Eprint;
 use std::process::Abort;
 use std::test::Fail;
 
 // Whom a node with these keys and servers asks in a round.
 fn expect(
-    rt: &impl Abort,
+    rt: &(impl Abort + Eprint),
     alloc: Global,
     text: &str,
     round: u64,
@@ -15,7 +17,7 @@ fn expect(
 ) -> Result<(), Fail> {
     let roster = Roster::read(alloc, text.as_bytes())?;
     let asked = sources(alloc, &roster, round.max(1), last)?;
-    assert_eq!(rt; asked.as_slice(), wanted);
+    assert_equal!(rt; asked.as_slice(), wanted);
     Ok(())
 }
 
@@ -140,7 +142,11 @@ fn the_own_name_is_not_asked_and_ntp_servers_are_asked_alone(rt: HostRuntime) ->
 fn the_locals_and_the_globals_are_listed(rt: HostRuntime) -> Result<(), Fail> {
     let text = format!(in rt.alloc(); "[node]\nname = \"a\"\n{SERVERS}")?;
     let roster = Roster::read(rt.alloc(), text.as_bytes())?;
-    assert_eq!(rt; roster.locals(rt.alloc())?.as_slice(), [0, 1].as_slice());
-    assert_eq!(rt; roster.globals(rt.alloc())?.as_slice(), [2, 3].as_slice());
+    assert_equal!(rt; roster.locals(rt.alloc())?.as_slice(),
+        [0, 1].as_slice(),
+    );
+    assert_equal!(rt; roster.globals(rt.alloc())?.as_slice(),
+        [2, 3].as_slice(),
+    );
     Ok(())
 }

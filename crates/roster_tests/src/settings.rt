@@ -1,6 +1,8 @@
 //! What is read of a roster's keys.
 
+use assertions::assert_equal;
 use roster::*;
+use std::io::Eprint;
 use std::process::Abort;
 use std::test::Fail;
 
@@ -12,25 +14,24 @@ lease = 1000007\nslew_ppm = 8\ntolerance = 9\n\
 [[server]]\nname = \"t\"\nkind = \"local\"\naddress = \"5.6.7.8:1\"\n\
 [[server]]\nname = \"u\"\nkind = \"global\"\naddress = \"9.10.11.12:2\"\n";
 
-fn expect_node(rt: &impl Abort, s: &Settings) {
-    assert_eq!(rt; s.name.as_slice(), b"far-9".as_slice());
-    assert_eq!(rt; s.role, Role::Server);
-    assert_eq!(rt; (s.courier, s.epoch, s.required), (true, 7, 3));
-    assert_eq!(rt; (s.listen.ip, s.listen.port), ([10, 20, 30, 40], 5000));
-    assert_eq!(rt;
-        (s.period, s.hold, s.timeout),
-        (10_000_001, 10_000_002, 10_003)
+fn expect_node(rt: &(impl Abort + Eprint), s: &Settings) {
+    assert_equal!(rt; s.name.as_slice(), b"far-9".as_slice());
+    assert_equal!(rt; s.role, Role::Server);
+    assert_equal!(rt; (s.courier, s.epoch, s.required), (true, 7, 3));
+    assert_equal!(rt; (s.listen.ip, s.listen.port), ([10, 20, 30, 40], 5000));
+    assert_equal!(rt; (s.period, s.hold, s.timeout),
+        (10_000_001, 10_000_002, 10_003),
     );
-    assert_eq!(rt; s.max_inaccuracy, 4);
+    assert_equal!(rt; s.max_inaccuracy, 4);
 }
 
-fn expect_rates(rt: &impl Abort, s: &Settings) {
-    assert_eq!(rt; (s.drift_ppm, s.resolution, s.lease), (5, 6, 1_000_007));
-    assert_eq!(rt; (s.slew_ppm, s.tolerance), (8, 9));
+fn expect_rates(rt: &(impl Abort + Eprint), s: &Settings) {
+    assert_equal!(rt; (s.drift_ppm, s.resolution, s.lease), (5, 6, 1_000_007));
+    assert_equal!(rt; (s.slew_ppm, s.tolerance), (8, 9));
 }
 
 fn expect_server(
-    rt: &impl Abort,
+    rt: &(impl Abort + Eprint),
     roster: &Roster,
     peer: u32,
     name: &[u8],
@@ -40,9 +41,9 @@ fn expect_server(
 ) {
     match roster.server(peer) {
         Some(entry) => {
-            assert_eq!(rt; entry.name.as_slice(), name);
-            assert_eq!(rt; entry.kind, kind);
-            assert_eq!(rt; (entry.address.ip, entry.address.port), (ip, port));
+            assert_equal!(rt; entry.name.as_slice(), name);
+            assert_equal!(rt; entry.kind, kind);
+            assert_equal!(rt; (entry.address.ip, entry.address.port), (ip, port));
         }
         None => assert!(rt; false),
     }
@@ -56,7 +57,7 @@ fn each_key_is_read(rt: HostRuntime) -> Result<(), Fail> {
     let copy = roster.copy(rt.alloc())?;
     expect_node(&rt, copy.settings());
     expect_rates(&rt, copy.settings());
-    assert_eq!(rt; copy.rates(), roster.rates());
+    assert_equal!(rt; copy.rates(), roster.rates());
     Ok(())
 }
 
@@ -65,12 +66,12 @@ fn each_server_is_read(rt: HostRuntime) -> Result<(), Fail> {
     let roster = Roster::read(rt.alloc(), EACH_KEY.as_bytes())?;
     let copy = roster.copy(rt.alloc())?;
     for r in [&roster, &copy] {
-        assert_eq!(rt; r.servers(), 3);
+        assert_equal!(rt; r.servers(), 3);
         expect_server(&rt, r, 0, b"s", ServerKind::Ntp, [1, 2, 3, 4], 65_535);
         expect_server(&rt, r, 1, b"t", ServerKind::Local, [5, 6, 7, 8], 1);
         expect_server(&rt, r, 2, b"u", ServerKind::Global, [9, 10, 11, 12], 2);
-        assert_eq!(rt; r.server(3), None);
-        assert_eq!(rt; r.server(u32::MAX), None);
+        assert_equal!(rt; r.server(3), None);
+        assert_equal!(rt; r.server(u32::MAX), None);
     }
     Ok(())
 }

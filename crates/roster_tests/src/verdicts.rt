@@ -1,7 +1,9 @@
 //! What refuses a roster's text, in words.
 
+use assertions::assert_equal;
 use roster::*;
 use std::alloc::Global;
+use std::io::Eprint;
 use std::process::Abort;
 use std::test::Fail;
 
@@ -20,19 +22,19 @@ fn refusal(alloc: Global, path: &[u8], cause: RosterCause) -> Result<String, Fai
 }
 
 pub(crate) fn expect(
-    rt: &impl Abort,
+    rt: &(impl Abort + Eprint),
     alloc: Global,
     text: &[u8],
     wanted: &str,
 ) -> Result<(), Fail> {
     let found = verdict(alloc, text)?;
-    assert_eq!(rt; found.as_str(), wanted);
+    assert_equal!(rt; found.as_str(), wanted);
     Ok(())
 }
 
 // A node's line behind its name.
 pub(crate) fn expect_of_line(
-    rt: &impl Abort,
+    rt: &(impl Abort + Eprint),
     alloc: Global,
     line: &str,
     wanted: &str,

@@ -3,6 +3,7 @@
 ghost use Rattle.std.specs.Prelude.{◌≤◌, length};
 
 use crate::pdus::{ACK, BIND, RESP, frag_length, pdu};
+use assertions::assert_at;
 use dts_base::Bytes;
 use ndr::Endian;
 use pdu_fields::{AckBody, BindBody, Body, Context, Contexts, Pdu, Syntax, Syntaxes};
@@ -98,19 +99,19 @@ fn fragments_are_as_long_as_the_peer_takes(rt: HostRuntime) {
             .expect(&rt, "bound")
             .1;
         let right = are_cut(&rt, alloc, sent.as_slice(), limit, count);
-        assert!(rt; right, "requests of {size}");
+        assert_at!(rt; size, right);
         let mut server = ServerSession::new(alloc, 1000).expect(&rt, "memory");
         let mut bind = pdu(&rt, alloc, BIND);
         resize(&mut bind, size);
         let outs = server.take(alloc, &bind).expect(&rt, "a bind");
         let told = transmit_size(outs.as_slice());
-        assert!(rt; told == Some(limit), "transmit size of {size}");
+        assert_at!(rt; size, told == Some(limit));
         let endian = Endian::Little;
         let sent = server
             .reply(alloc, 2, 0, endian, &stub[..stub.len().min(20_000)])
             .expect(&rt, "memory");
         let right = are_cut(&rt, alloc, sent.as_slice(), limit, count);
-        assert!(rt; right, "responses of {size}");
+        assert_at!(rt; size, right);
     }
 }
 
@@ -187,12 +188,12 @@ fn what_is_sent_comes_whole(rt: HostRuntime) {
         let part = &stub[..length];
         let (call_id, sent) = client.request(alloc, 1, part).expect(&rt, "bound");
         let given = heard(&rt, alloc, &mut server, sent.as_slice()).expect(&rt, "a call");
-        assert!(rt; given.as_slice() == part, "request of {length}");
+        assert_at!(rt; length, given.as_slice() == part);
         let sent = server
             .reply(alloc, call_id, 0, Endian::Big, part)
             .expect(&rt, "memory");
         let given = heard(&rt, alloc, &mut client, sent.as_slice()).expect(&rt, "a reply");
-        assert!(rt; given.as_slice() == part, "response of {length}");
+        assert_at!(rt; length, given.as_slice() == part);
     }
 }
 
@@ -341,12 +342,12 @@ fn a_server_accepts_16_contexts(rt: HostRuntime) {
     let bind = proposed(1, Body::Bind(proposal(sixteen_contexts(&rt, alloc))));
     let outs = server.take(alloc, &bind).expect(&rt, "a bind");
     let right = are_results(outs.as_slice(), &[(0, 0); 16]);
-    assert!(rt; right, "16 contexts");
+    assert_at!(rt; "16 contexts", right);
     let alter = proposed(
         2,
         Body::AlterContext(proposal(further_contexts(&rt, alloc))),
     );
     let outs = server.take(alloc, &alter).expect(&rt, "further contexts");
     let right = are_results(outs.as_slice(), &[(2, 3), (0, 0), (2, 1), (2, 2)]);
-    assert!(rt; right, "further contexts");
+    assert_at!(rt; "further contexts", right);
 }

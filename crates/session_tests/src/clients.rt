@@ -4,6 +4,7 @@ use crate::pdus::{
     ACK, ACK_2, ALTER, ALTER_RESP, BIG_RESP, BIND, CO_CANCEL, FAULT, FAULT_1, NAK, NAK_2, ORPHANED,
     REJECTING_ACK, REQ, RESP, RESP_1, RESP_FIRST, RESP_LAST, RESP_MIDDLE, SHUTDOWN, is_pdu, pdu,
 };
+use assertions::assert_at;
 use dts_base::State;
 use ndr::Endian;
 use rpc_session::{ClientOut, ClientSession, RequestFault, SessionFault};
@@ -287,9 +288,9 @@ fn each_pdu_is_what_the_rules_name(rt: HostRuntime) {
         let p = pdu(&rt, alloc, digits);
         let answer = session.take(alloc, &p);
         let wanted = is_wanted(&answer, want);
-        assert!(rt; wanted, "row {index}");
+        assert_at!(rt; index, wanted);
         let state = state_of(&rt, alloc, &session);
-        assert!(rt; state == after, "state of row {index}");
+        assert_at!(rt; index, state == after);
     }
 }
 

@@ -5,6 +5,7 @@ use crate::pdus::{
     ORPHANED_3, REQ, REQ_3, REQ_FIRST, REQ_LAST, REQ_LAST_OF_3, REQ_ON_1, RESP, SHUTDOWN, is_pdu,
     pdu,
 };
+use assertions::assert_at;
 use dts_base::State;
 use ndr::Endian;
 use rpc_session::{Out, ServerSession, SessionFault};
@@ -247,9 +248,9 @@ fn each_pdu_is_answered_by_the_rules(rt: HostRuntime) {
         let p = pdu(&rt, alloc, digits);
         let answer = session.take(alloc, &p);
         let wanted = is_wanted(&rt, alloc, &answer, want);
-        assert!(rt; wanted, "row {index}");
+        assert_at!(rt; index, wanted);
         let state = state_of(&rt, alloc, &session);
-        assert!(rt; state == after, "state of row {index}");
+        assert_at!(rt; index, state == after);
     }
 }
 

@@ -1,6 +1,8 @@
 use crate::examples::{EXAMPLES, Example, HEADER};
+use assertions::{assert_at, assert_equal};
 use dts_base::{Field, MemorySink, MemorySource, Refused, WireCause};
 use std::alloc::Global;
+use std::io::Eprint;
 use std::process::Abort;
 use std::test::Fail;
 use wire_show::{MAX_INPUT, ShowEnd, Shown, show};
@@ -22,7 +24,7 @@ fn refused(field: Field, offset: u32, cause: WireCause) -> ShowEnd {
 
 // An input is answered so, and this is written.
 fn expect_shown(
-    rt: &impl Abort,
+    rt: &(impl Abort + Eprint),
     alloc: Global,
     kind: Shown,
     octets: &[u8],
@@ -32,14 +34,14 @@ fn expect_shown(
 ) -> Result<(), Fail> {
     let mut input = MemorySource::new(alloc, octets, fails.0)?;
     let mut output = MemorySink::new(alloc, fails.1)?;
-    assert_eq!(rt; show(alloc, kind, &mut input, &mut output), end);
-    assert!(rt; output.written() == text, "other lines");
+    assert_equal!(rt; show(alloc, kind, &mut input, &mut output), end);
+    assert_at!(rt; "other lines", output.written() == text);
     Ok(())
 }
 
 // An input is refused, and nothing is written.
 fn expect_refused(
-    rt: &impl Abort,
+    rt: &(impl Abort + Eprint),
     alloc: Global,
     kind: Shown,
     octets: &[u8],
@@ -55,7 +57,7 @@ fn push_line(text: &mut Vec<u8>, line: &str) -> Result<(), Fail> {
 }
 
 // An example's octets have its lines.
-fn expect_lines(rt: &impl Abort, alloc: Global, example: &Example) -> Result<(), Fail> {
+fn expect_lines(rt: &(impl Abort + Eprint), alloc: Global, example: &Example) -> Result<(), Fail> {
     let (digits, lines) = *example;
     let mut text = Vec::new(alloc);
     for (offset, size, name) in HEADER.iter() {
@@ -264,7 +266,7 @@ fn longest_with(alloc: Global, behind: &[u8]) -> Result<Vec<u8>, Fail> {
 #[test]
 fn a_line_has_at_most_11680_digits(rt: HostRuntime) -> Result<(), Fail> {
     let alloc = rt.alloc();
-    assert_eq!(rt; MAX_INPUT, 11_681);
+    assert_equal!(rt; MAX_INPUT, 11_681);
     let rows: [(&[u8], WireCause); 10] = [
         (b"0", WireCause::Long),
         (b"00", WireCause::Long),
@@ -291,19 +293,18 @@ fn a_line_has_at_most_11680_digits(rt: HostRuntime) -> Result<(), Fail> {
 }
 
 // The longest request is shown, with and without a line feed.
-fn expect_longest(rt: &impl Abort, alloc: Global, behind: &[u8]) -> Result<(), Fail> {
+fn expect_longest(rt: &(impl Abort + Eprint), alloc: Global, behind: &[u8]) -> Result<(), Fail> {
     let octets = longest_with(alloc, behind)?;
     let mut input = MemorySource::new(alloc, octets.as_slice(), &[])?;
     let mut output = MemorySink::new(alloc, &[])?;
     let end = show(alloc, Shown::Pdu, &mut input, &mut output);
-    assert_eq!(rt; end, ShowEnd::Done);
+    assert_equal!(rt; end, ShowEnd::Done);
     let written = output.written();
-    assert_eq!(rt; written.len(), 11_850);
-    assert!(rt;
+    assert_equal!(rt; written.len(), 11_850);
+    assert_at!(rt; "another first line",
         written.starts_with(b"0 rpc_vers 05\n"),
-        "another first line"
     );
-    assert!(rt; written.ends_with(b"00000\n"), "another last line");
+    assert_at!(rt; "another last line", written.ends_with(b"00000\n"));
     Ok(())
 }
 
@@ -382,7 +383,7 @@ fn ends_have_their_texts(rt: HostRuntime) -> Result<(), Fail> {
     ];
     for (end, text) in rows {
         let printed = format!(in rt.alloc(); "{end}")?;
-        assert_eq!(rt; printed.as_str(), text);
+        assert_equal!(rt; printed.as_str(), text);
     }
     Ok(())
 }

@@ -1,6 +1,8 @@
+use assertions::{assert_at, assert_equal, assert_equal_at};
 use dts_base::{MemorySink, MemorySource};
 use line_filter::{LineFilter, Stop, Unfit};
 use std::alloc::Global;
+use std::io::Eprint;
 use std::process::Abort;
 use std::test::Fail;
 use utc_calculator::*;
@@ -83,8 +85,8 @@ fn each_operation_is_answered(rt: HostRuntime) -> Result<(), Fail> {
     ];
     for (line, want) in cases {
         match answer(rt.alloc(), line.as_bytes()) {
-            Ok(octets) => assert_eq!(rt; octets.as_slice(), want.as_bytes(), "{line}"),
-            Err(fault) => assert!(rt; false, "{line}: {fault}"),
+            Ok(octets) => assert_equal_at!(rt; line, octets.as_slice(), want.as_bytes()),
+            Err(fault) => assert_at!(rt; (line, fault), false),
         }
     }
     Ok(())
@@ -189,7 +191,7 @@ fn the_first_cause_is_named_at_its_column(rt: HostRuntime) -> Result<(), Fail> {
     for (line, column, cause) in cases {
         let got = answer(rt.alloc(), line.as_bytes());
         let want = Some(Unfit::Refused(at(column, cause)));
-        assert_eq!(rt; got.err(), want, "{line}");
+        assert_equal_at!(rt; line, got.err(), want);
     }
     Ok(())
 }
@@ -223,7 +225,7 @@ fn a_text_that_is_no_time_has_the_fault_of_its_form(rt: HostRuntime) -> Result<(
     for (line, column, field, offset) in cases {
         let got = answer(rt.alloc(), line.as_bytes());
         let want = Some(Unfit::Refused(at(column, text(field, offset))));
-        assert_eq!(rt; got.err(), want, "{line}");
+        assert_equal_at!(rt; line, got.err(), want);
     }
     Ok(())
 }
@@ -233,21 +235,19 @@ fn operations_are_read_and_computed(rt: HostRuntime) -> Result<(), Fail> {
     let Ok(second) = Utc::relative(10_000_000, Some(0)) else {
         return Ok(assert!(rt; false));
     };
-    assert_eq!(rt;
-        parse(b"mul 00-00:00:01I0 7"),
-        Ok(Operation::Mul(second, 7))
+    assert_equal!(rt; parse(b"mul 00-00:00:01I0 7"),
+        Ok(Operation::Mul(second, 7)),
     );
-    assert_eq!(rt; parse(b"mul"), Err(at(4, UtcCause::Missing)));
-    assert_eq!(rt;
-        compute(Operation::Mid(second, second)),
-        Ok(Outcome::Order(Order4::EqualTo))
+    assert_equal!(rt; parse(b"mul"), Err(at(4, UtcCause::Missing)));
+    assert_equal!(rt; compute(Operation::Mid(second, second)),
+        Ok(Outcome::Order(Order4::EqualTo)),
     );
     Ok(())
 }
 
 // What a calculation of these lines answers and writes.
 fn expect(
-    rt: &impl Abort,
+    rt: &(impl Abort + Eprint),
     alloc: Global,
     lines: &[u8],
     ends: Result<(), Stop<UtcRefusal>>,
@@ -255,8 +255,8 @@ fn expect(
 ) -> Result<(), Fail> {
     let mut input = MemorySource::new(alloc, lines, &[])?;
     let mut output = MemorySink::new(alloc, &[])?;
-    assert_eq!(rt; calculate(alloc, &mut input, &mut output), ends);
-    assert_eq!(rt; output.written(), want);
+    assert_equal!(rt; calculate(alloc, &mut input, &mut output), ends);
+    assert_equal!(rt; output.written(), want);
     Ok(())
 }
 
@@ -323,8 +323,8 @@ fn a_line_has_at_most_16384_octets(rt: HostRuntime) -> Result<(), Fail> {
 
 #[test]
 fn too_many_and_too_long_lines_have_their_causes(rt: HostRuntime) {
-    assert_eq!(rt; Calculator::too_many(), at(1, UtcCause::Lines));
-    assert_eq!(rt; Calculator::too_long(), at(16_385, UtcCause::Long));
+    assert_equal!(rt; Calculator::too_many(), at(1, UtcCause::Lines));
+    assert_equal!(rt; Calculator::too_long(), at(16_385, UtcCause::Long));
 }
 
 #[test]
@@ -343,8 +343,8 @@ fn faults_are_told_and_what_was_written_stands(rt: HostRuntime) -> Result<(), Fa
         let mut input = MemorySource::new(rt.alloc(), lines, &[read])?;
         let mut output = MemorySink::new(rt.alloc(), &[write])?;
         let got = calculate(rt.alloc(), &mut input, &mut output);
-        assert_eq!(rt; got, result, "{read} {write}");
-        assert_eq!(rt; output.written(), want.as_bytes(), "{read} {write}");
+        assert_equal_at!(rt; (read, write), got, result);
+        assert_equal_at!(rt; (read, write), output.written(), want.as_bytes());
     }
     Ok(())
 }
@@ -409,12 +409,11 @@ fn causes_have_their_texts(rt: HostRuntime) -> Result<(), Fail> {
         ),
     ];
     for (cause, want) in cases {
-        assert_eq!(rt; cause.to_string(rt.alloc())?.as_str(), want);
+        assert_equal!(rt; cause.to_string(rt.alloc())?.as_str(), want);
     }
     let refusal = at(5, UtcCause::Extra);
-    assert_eq!(rt;
-        refusal.to_string(rt.alloc())?.as_str(),
-        "column 5: the line should end before this operand"
+    assert_equal!(rt; refusal.to_string(rt.alloc())?.as_str(),
+        "column 5: the line should end before this operand",
     );
     Ok(())
 }

@@ -1,5 +1,7 @@
+use assertions::assert_equal;
 use dts_base::{MemorySink, MemorySource};
 use std::alloc::Global;
+use std::io::Eprint;
 use std::process::Abort;
 use std::test::Fail;
 use utc_order::*;
@@ -7,7 +9,7 @@ use utc_text::{TextFault, TextField};
 
 // Orders the octets, where these reads and writes fail, and expects this answer and this text.
 fn expect_ordered(
-    rt: &impl Abort,
+    rt: &(impl Abort + Eprint),
     alloc: Global,
     octets: &[u8],
     fails: (&[u64], &[u64]),
@@ -17,13 +19,17 @@ fn expect_ordered(
     let mut input = MemorySource::new(alloc, octets, fails.0)?;
     let mut output = MemorySink::new(alloc, fails.1)?;
     let status = order(alloc, &mut input, &mut output);
-    assert_eq!(rt; status, expected);
-    assert_eq!(rt; output.written(), text);
+    assert_equal!(rt; status, expected);
+    assert_equal!(rt; output.written(), text);
     Ok(())
 }
 
 // Expects each input's text.
-fn expect_texts(rt: &impl Abort, alloc: Global, rows: &[(&[u8], &[u8])]) -> Result<(), Fail> {
+fn expect_texts(
+    rt: &(impl Abort + Eprint),
+    alloc: Global,
+    rows: &[(&[u8], &[u8])],
+) -> Result<(), Fail> {
     for (octets, text) in rows {
         expect_ordered(rt, alloc, octets, (&[], &[]), OrderStatus::Done, text)?;
     }
@@ -32,7 +38,7 @@ fn expect_texts(rt: &impl Abort, alloc: Global, rows: &[(&[u8], &[u8])]) -> Resu
 
 // Expects that each input is refused at this line for this cause, and nothing is written.
 fn expect_refusals(
-    rt: &impl Abort,
+    rt: &(impl Abort + Eprint),
     alloc: Global,
     rows: &[(&[u8], u32, OrderCause)],
 ) -> Result<(), Fail> {
@@ -157,8 +163,10 @@ fn an_input_has_at_most_100000_lines(rt: HostRuntime) -> Result<(), Fail> {
     let mut octets = lines_of(alloc, MAX_LINES)?;
     let mut input = MemorySource::new(alloc, octets.as_slice(), &[])?;
     let mut output = MemorySink::new(alloc, &[])?;
-    assert_eq!(rt; order(alloc, &mut input, &mut output), OrderStatus::Done);
-    assert_eq!(rt; output.written().len(), octets.len() + 2 * MAX_LINES);
+    assert_equal!(rt; order(alloc, &mut input, &mut output),
+        OrderStatus::Done,
+    );
+    assert_equal!(rt; output.written().len(), octets.len() + 2 * MAX_LINES);
     octets.push(b'\n')?;
     expect_refusals(
         &rt,

@@ -1,3 +1,4 @@
+use assertions::assert_at;
 use std::process::Abort;
 use utc_routines::*;
 use utc_value::{MAX_INACCURACY, Utc};
@@ -122,7 +123,7 @@ fn intervals_compare(rt: HostRuntime) {
     for (time, inaccuracy, other, wide, order) in cases {
         let a = moment(rt, time, inaccuracy);
         let b = moment(rt, other, wide);
-        assert!(rt; cmp_interval(a, b) == Ok(order), "{time} {other}");
+        assert_at!(rt; (time, other), cmp_interval(a, b) == Ok(order));
     }
     let at = moment(rt, 5, None);
     assert!(rt; cmp_interval(at, length(rt, 5, None)) == Err(UtcFault::Kinds));

@@ -1,3 +1,4 @@
+use assertions::{assert_equal, assert_equal_at};
 use std::test::Fail;
 use utc_text::*;
 use utc_value::Utc;
@@ -79,10 +80,9 @@ fn absolute_texts_are_read(rt: HostRuntime) -> Result<(), Fail> {
         ),
     ];
     for (text, time, inaccuracy, tdf) in cases {
-        assert_eq!(rt;
+        assert_equal_at!(rt; text,
             parse_abs(text.as_bytes())?,
             Utc::absolute(time, inaccuracy, tdf)?,
-            "{text}"
         );
     }
     Ok(())
@@ -138,10 +138,9 @@ fn the_first_wrong_field_of_an_absolute_text(rt: HostRuntime) {
         ),
     ];
     for (text, field, offset) in cases {
-        assert_eq!(rt;
+        assert_equal_at!(rt; text,
             parse_abs(text.as_bytes()).err(),
             Some(fault(field, offset)),
-            "{text}"
         );
     }
 }
@@ -162,10 +161,9 @@ fn relative_texts_are_read(rt: HostRuntime) -> Result<(), Fail> {
         ("10675199-02:48:05.4775807", i64::MAX, None),
     ];
     for (text, time, inaccuracy) in cases {
-        assert_eq!(rt;
+        assert_equal_at!(rt; text,
             parse_rel(text.as_bytes())?,
             Utc::relative(time, inaccuracy)?,
-            "{text}"
         );
     }
     Ok(())
@@ -191,10 +189,9 @@ fn the_first_wrong_field_of_a_relative_text(rt: HostRuntime) {
         ("01-00:00:00+00:00", TextField::Tail, 11),
     ];
     for (text, field, offset) in cases {
-        assert_eq!(rt;
+        assert_equal_at!(rt; text,
             parse_rel(text.as_bytes()).err(),
             Some(fault(field, offset)),
-            "{text}"
         );
     }
 }
@@ -223,7 +220,7 @@ fn absolute_times_are_printed(rt: HostRuntime) -> Result<(), Fail> {
     ];
     for (time, inaccuracy, tdf, text) in cases {
         let printed = print_any(rt.alloc(), Utc::absolute(time, inaccuracy, 0)?, tdf)?;
-        assert_eq!(rt; printed.as_slice(), text.as_bytes(), "{text}");
+        assert_equal_at!(rt; text, printed.as_slice(), text.as_bytes());
     }
     Ok(())
 }
@@ -232,7 +229,7 @@ fn absolute_times_are_printed(rt: HostRuntime) -> Result<(), Fail> {
 fn in_utc_the_time_differential_factor_is_0(rt: HostRuntime) -> Result<(), Fail> {
     let printed = print_gmt(rt.alloc(), Utc::absolute(EPOCH, Some(0), 60)?)?;
     let text = "1970-01-01-00:00:00.0000000+00:00I0.0000000";
-    assert_eq!(rt; printed.as_slice(), text.as_bytes());
+    assert_equal!(rt; printed.as_slice(), text.as_bytes());
     Ok(())
 }
 
@@ -249,7 +246,7 @@ fn relative_times_are_printed(rt: HostRuntime) -> Result<(), Fail> {
     ];
     for (time, inaccuracy, text) in cases {
         let printed = print_rel(rt.alloc(), Utc::relative(time, inaccuracy)?)?;
-        assert_eq!(rt; printed.as_slice(), text.as_bytes(), "{text}");
+        assert_equal_at!(rt; text, printed.as_slice(), text.as_bytes());
     }
     Ok(())
 }
@@ -259,50 +256,45 @@ fn a_year_is_looked_at_behind_the_time_differential_factor(rt: HostRuntime) -> R
     let before = Utc::absolute(FIRST - 1, None, 0)?;
     let last = Utc::absolute(LAST, None, 0)?;
     let text = print_any(rt.alloc(), before, 1)?;
-    assert_eq!(rt;
-        text.as_slice(),
-        b"1582-01-01-00:00:59.9999999+00:01I-----".as_slice()
+    assert_equal!(rt; text.as_slice(),
+        b"1582-01-01-00:00:59.9999999+00:01I-----".as_slice(),
     );
-    assert_eq!(rt;
-        print_gmt(rt.alloc(), before).err(),
-        Some(PrintFault::YearRange)
+    assert_equal!(rt; print_gmt(rt.alloc(), before).err(),
+        Some(PrintFault::YearRange),
     );
-    assert_eq!(rt;
-        print_any(rt.alloc(), last, 1).err(),
-        Some(PrintFault::YearRange)
+    assert_equal!(rt; print_any(rt.alloc(), last, 1).err(),
+        Some(PrintFault::YearRange),
     );
-    assert_eq!(rt;
-        print_any(rt.alloc(), last, 1440).err(),
-        Some(PrintFault::TdfRange)
+    assert_equal!(rt; print_any(rt.alloc(), last, 1440).err(),
+        Some(PrintFault::TdfRange),
     );
-    assert_eq!(rt; print_rel(rt.alloc(), last).err(), Some(PrintFault::Kinds));
-    assert_eq!(rt;
-        print_gmt(rt.alloc(), Utc::relative(0, None)?).err(),
-        Some(PrintFault::Kinds)
+    assert_equal!(rt; print_rel(rt.alloc(), last).err(),
+        Some(PrintFault::Kinds),
     );
-    assert_eq!(rt; civil(last, 1), Err(PrintFault::YearRange));
+    assert_equal!(rt; print_gmt(rt.alloc(), Utc::relative(0, None)?).err(),
+        Some(PrintFault::Kinds),
+    );
+    assert_equal!(rt; civil(last, 1), Err(PrintFault::YearRange));
     Ok(())
 }
 
 #[test]
 fn civil_times_are_those_of_the_calendar(rt: HostRuntime) -> Result<(), Fail> {
-    assert_eq!(rt;
-        civil(Utc::absolute(EPOCH, Some(0), 0)?, 0)?,
-        at(1970, 1, 1)
+    assert_equal!(rt; civil(Utc::absolute(EPOCH, Some(0), 0)?, 0)?,
+        at(1970, 1, 1),
     );
-    assert_eq!(rt;
-        civil(Utc::absolute(100_103_040_000_000_000, None, 0)?, 0)?,
-        at(1900, 1, 1)
+    assert_equal!(rt; civil(Utc::absolute(100_103_040_000_000_000, None, 0)?, 0)?,
+        at(1900, 1, 1),
     );
-    assert_eq!(rt; from_civil(at(1582, 10, 15), None, 0)?.time(), 0);
-    assert_eq!(rt; from_civil(at(2021, 2, 29), None, 0), Err(CivilFault::Date));
-    assert_eq!(rt;
-        from_civil(at(2021, 2, 28), Some(1 << 48), 1440),
-        Err(CivilFault::InaccuracyRange)
+    assert_equal!(rt; from_civil(at(1582, 10, 15), None, 0)?.time(), 0);
+    assert_equal!(rt; from_civil(at(2021, 2, 29), None, 0),
+        Err(CivilFault::Date),
     );
-    assert_eq!(rt;
-        from_civil(at(2021, 2, 28), None, 1440),
-        Err(CivilFault::TdfRange)
+    assert_equal!(rt; from_civil(at(2021, 2, 28), Some(1 << 48), 1440),
+        Err(CivilFault::InaccuracyRange),
+    );
+    assert_equal!(rt; from_civil(at(2021, 2, 28), None, 1440),
+        Err(CivilFault::TdfRange),
     );
     Ok(())
 }
@@ -310,7 +302,7 @@ fn civil_times_are_those_of_the_calendar(rt: HostRuntime) -> Result<(), Fail> {
 #[test]
 fn faults_say_what_is_wrong(rt: HostRuntime) -> Result<(), Fail> {
     let text = format!(in rt.alloc(); "{}", PrintFault::YearRange)?;
-    assert_eq!(rt; text.as_str(), "a year outside 1582 to 9999");
+    assert_equal!(rt; text.as_str(), "a year outside 1582 to 9999");
     Ok(())
 }
 

@@ -1,3 +1,4 @@
+use assertions::{assert_at, assert_equal};
 use utc_value::*;
 
 // 1970-01-01 00:00:00 UTC, which is 141427 days after 1582-10-15.
@@ -10,7 +11,7 @@ const UNIX_EPOCH_OCTETS: [u8; 16] = [
 #[test]
 fn octets_of_1970_read_back(rt: HostRuntime) {
     let moment = Utc::absolute(UNIX_EPOCH, Some(0), 0).expect(&rt, "in range");
-    assert_eq!(rt; moment.to_bytes(), UNIX_EPOCH_OCTETS);
+    assert_equal!(rt; moment.to_bytes(), UNIX_EPOCH_OCTETS);
     assert!(rt; Utc::from_bytes(UNIX_EPOCH_OCTETS) == Ok(moment));
 }
 
@@ -21,13 +22,13 @@ fn octets_of_negative_parts(rt: HostRuntime) {
     let octets = [
         255, 255, 255, 255, 255, 255, 255, 255, 255, 255, 255, 255, 255, 255, 0x61, 0x1a,
     ];
-    assert_eq!(rt; moment.to_bytes(), octets);
+    assert_equal!(rt; moment.to_bytes(), octets);
     assert!(rt; Utc::from_bytes(octets) == Ok(moment));
     let length = Utc::relative(-2, Some(MAX_INACCURACY)).expect(&rt, "in range");
     let octets = [
         254, 255, 255, 255, 255, 255, 255, 255, 254, 255, 255, 255, 255, 255, 0, 0x20,
     ];
-    assert_eq!(rt; length.to_bytes(), octets);
+    assert_equal!(rt; length.to_bytes(), octets);
     assert!(rt; Utc::from_bytes(octets) == Ok(length));
 }
 
@@ -46,7 +47,7 @@ fn octets_refuse_versions_and_factors(rt: HostRuntime) {
     for (low, high, fault) in cases {
         octets[14] = low;
         octets[15] = high;
-        assert!(rt; Utc::from_bytes(octets) == Err(fault), "at {low} {high}");
+        assert_at!(rt; (low, high), Utc::from_bytes(octets) == Err(fault));
     }
     for (low, high, tdf) in [(0x9f, 0x15, 1439), (0x61, 0x1a, -1439)] {
         octets[14] = low;
@@ -75,26 +76,30 @@ fn ranges_at_their_ends(rt: HostRuntime) {
 #[test]
 fn ends_of_an_interval(rt: HostRuntime) {
     let widest = Utc::absolute(i64::MAX, Some(MAX_INACCURACY), 60).expect(&rt, "in range");
-    assert_eq!(rt; widest.time(), i64::MAX);
-    assert_eq!(rt; widest.inaccuracy(), Some(MAX_INACCURACY));
-    assert_eq!(rt; widest.tdf(), 60);
+    assert_equal!(rt; widest.time(), i64::MAX);
+    assert_equal!(rt; widest.inaccuracy(), Some(MAX_INACCURACY));
+    assert_equal!(rt; widest.tdf(), 60);
     assert!(rt; widest.kind() == Kind::Absolute);
-    assert_eq!(rt; widest.latest(), Some(9_223_653_511_831_486_461));
-    assert_eq!(rt; widest.earliest(), Some(9_223_090_561_878_065_153));
+    assert_equal!(rt; widest.latest(), Some(9_223_653_511_831_486_461));
+    assert_equal!(rt; widest.earliest(), Some(9_223_090_561_878_065_153));
     let unknown = Utc::relative(i64::MIN, None).expect(&rt, "in range");
     assert!(rt; unknown.kind() == Kind::Relative);
-    assert_eq!(rt; unknown.earliest(), None);
-    assert_eq!(rt; unknown.latest(), None);
+    assert_equal!(rt; unknown.earliest(), None);
+    assert_equal!(rt; unknown.latest(), None);
 }
 
 #[test]
 fn faults_say_what_was_found(rt: HostRuntime) -> Result<(), std::test::Fail> {
     let version = format!(in rt.alloc(); "{}", BytesFault::Version { found: 3 })?;
-    assert_eq!(rt; version.as_str(), "version 3 is neither 1 nor 2");
+    assert_equal!(rt; version.as_str(), "version 3 is neither 1 nor 2");
     let tdf = format!(in rt.alloc(); "{}", BytesFault::Tdf { found: -1440 })?;
-    assert_eq!(rt; tdf.as_str(), "a time differential factor of -1440 minutes");
+    assert_equal!(rt; tdf.as_str(),
+        "a time differential factor of -1440 minutes",
+    );
     let range = format!(in rt.alloc(); "{}", ValueFault::InaccuracyRange)?;
-    assert_eq!(rt; range.as_str(), "the inaccuracy is above 281474976710654");
+    assert_equal!(rt; range.as_str(),
+        "the inaccuracy is above 281474976710654",
+    );
     Ok(())
 }
 

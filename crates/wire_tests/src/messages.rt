@@ -1,3 +1,4 @@
+use assertions::{assert_equal, assert_equal_at};
 use dts_base::{Field, Refused, Text, WireCause};
 use ndr::{DecodeFault, Endian, WriteFault};
 use std::alloc::Global;
@@ -34,13 +35,13 @@ fn wrong(field: Field, offset: u32, cause: WireCause) -> Option<DecodeFault> {
 #[test]
 fn a_command_is_written_and_read(rt: HostRuntime) -> Result<(), Fail> {
     let stub = encode_command(rt.alloc(), "show time", Endian::Little)?;
-    assert_eq!(rt; stub.as_slice(), SHOW_TIME.as_slice());
+    assert_equal!(rt; stub.as_slice(), SHOW_TIME.as_slice());
     let text = decode_command(rt.alloc(), &SHOW_TIME, Endian::Little)?;
-    assert_eq!(rt; text.as_slice(), b"show time".as_slice());
+    assert_equal!(rt; text.as_slice(), b"show time".as_slice());
     let mut longer = stub.into_vec();
     longer.push(0)?;
     let decoded = decode_command(rt.alloc(), longer.as_slice(), Endian::Little);
-    assert_eq!(rt; decoded.err(), wrong(Field::Tail, 22, WireCause::Extra));
+    assert_equal!(rt; decoded.err(), wrong(Field::Tail, 22, WireCause::Extra));
     Ok(())
 }
 
@@ -55,7 +56,7 @@ fn a_server_is_written_and_read(rt: HostRuntime) -> Result<(), Fail> {
         name: Text::from_slice(rt.alloc(), b"s")?,
     };
     let stub = encode_info_reply(rt.alloc(), &server, Endian::Little)?;
-    assert_eq!(rt; stub.as_slice(), SERVER.as_slice());
+    assert_equal!(rt; stub.as_slice(), SERVER.as_slice());
     let decoded = decode_info_reply(rt.alloc(), &SERVER, Endian::Little)?;
     assert!(rt; decoded == server);
     Ok(())
@@ -74,8 +75,10 @@ fn a_timestamp_has_one_order_of_its_octets(rt: HostRuntime) -> Result<(), Fail> 
     big[23] = 3;
     for (order, octets) in [(Endian::Little, REPLY), (Endian::Big, big)] {
         let stub = encode_time_reply(rt.alloc(), &reply, order)?;
-        assert_eq!(rt; stub.as_slice(), octets.as_slice());
-        assert_eq!(rt; decode_time_reply(rt.alloc(), &octets, order), Ok(reply));
+        assert_equal!(rt; stub.as_slice(), octets.as_slice());
+        assert_equal!(rt; decode_time_reply(rt.alloc(), &octets, order),
+            Ok(reply),
+        );
     }
     Ok(())
 }
@@ -120,7 +123,7 @@ fn a_reply_is_refused_at_its_first_wrong_field(rt: HostRuntime) -> Result<(), Fa
     for case in &cases {
         let stub = damaged(rt.alloc(), &REPLY, case)?;
         let decoded = decode_time_reply(rt.alloc(), stub.as_slice(), Endian::Little);
-        assert_eq!(rt; decoded.err(), case.refused);
+        assert_equal!(rt; decoded.err(), case.refused);
     }
     Ok(())
 }
@@ -139,7 +142,7 @@ fn a_server_is_refused_at_its_first_wrong_field(rt: HostRuntime) -> Result<(), F
     for case in &cases {
         let stub = damaged(rt.alloc(), &SERVER, case)?;
         let decoded = decode_info_reply(rt.alloc(), stub.as_slice(), Endian::Little);
-        assert_eq!(rt; decoded.err(), case.refused);
+        assert_equal!(rt; decoded.err(), case.refused);
     }
     Ok(())
 }
@@ -148,17 +151,19 @@ fn a_server_is_refused_at_its_first_wrong_field(rt: HostRuntime) -> Result<(), F
 fn an_epoch_and_nothing_are_read(rt: HostRuntime) -> Result<(), Fail> {
     let asked = GetTime { epoch: 7 };
     let stub = encode_get_time(rt.alloc(), &asked, Endian::Big)?;
-    assert_eq!(rt; stub.as_slice(), [7].as_slice());
-    assert_eq!(rt; decode_get_time(rt.alloc(), &[7], Endian::Big), Ok(asked));
+    assert_equal!(rt; stub.as_slice(), [7].as_slice());
+    assert_equal!(rt; decode_get_time(rt.alloc(), &[7], Endian::Big),
+        Ok(asked),
+    );
     let decoded = decode_get_time(rt.alloc(), &[7, 0], Endian::Big);
-    assert_eq!(rt; decoded.err(), wrong(Field::Tail, 1, WireCause::Extra));
-    assert_eq!(rt; decode_get_info(&[]), Ok(()));
+    assert_equal!(rt; decoded.err(), wrong(Field::Tail, 1, WireCause::Extra));
+    assert_equal!(rt; decode_get_info(&[]), Ok(()));
     let extra = Refused {
         field: Field::Tail,
         offset: 0,
         cause: WireCause::Extra,
     };
-    assert_eq!(rt; decode_get_info(&[0]), Err(extra));
+    assert_equal!(rt; decode_get_info(&[0]), Err(extra));
     Ok(())
 }
 
@@ -177,13 +182,13 @@ fn no_stub_is_too_long_and_a_text_may_be(rt: HostRuntime) -> Result<(), Fail> {
     let longest = vec![in rt.alloc(); b'~'; 1023]?;
     let too_long = vec![in rt.alloc(); b'~'; 1024]?;
     let refused = Err(WriteFault::StringValue);
-    assert_eq!(rt; answered(rt.alloc(), longest.as_slice()), Ok(1040));
-    assert_eq!(rt; answered(rt.alloc(), too_long.as_slice()), refused);
-    assert_eq!(rt; answered(rt.alloc(), b"\n"), refused);
-    assert_eq!(rt; answered(rt.alloc(), &[0xff]), refused, "no UTF-8");
-    assert_eq!(rt; answered(rt.alloc(), b""), Ok(20));
+    assert_equal!(rt; answered(rt.alloc(), longest.as_slice()), Ok(1040));
+    assert_equal!(rt; answered(rt.alloc(), too_long.as_slice()), refused);
+    assert_equal!(rt; answered(rt.alloc(), b"\n"), refused);
+    assert_equal_at!(rt; "no UTF-8", answered(rt.alloc(), &[0xff]), refused);
+    assert_equal!(rt; answered(rt.alloc(), b""), Ok(20));
     let stub = encode_command(rt.alloc(), "\u{e9}", Endian::Big);
-    assert_eq!(rt; stub.err(), Some(WriteFault::StringValue));
+    assert_equal!(rt; stub.err(), Some(WriteFault::StringValue));
     Ok(())
 }
 

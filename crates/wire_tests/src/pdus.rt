@@ -1,9 +1,11 @@
 ghost use Rattle.std.specs.Prelude.{◌<◌};
 
+use assertions::{assert_at, assert_equal};
 use dts_base::{Bytes, Field, Refused, WireCause};
 use ndr::Endian;
 use rpc_pdu::*;
 use std::alloc::Global;
+use std::io::Eprint;
 use std::process::Abort;
 use uuid::Uuid;
 
@@ -37,7 +39,7 @@ fn decoded(rt: &impl Abort, alloc: Global, octets: &[u8]) -> Pdu {
 
 // Octets are refused at this field.
 fn expect_refused(
-    rt: &impl Abort,
+    rt: &(impl Abort + Eprint),
     alloc: Global,
     octets: &[u8],
     field: Field,
@@ -50,29 +52,28 @@ fn expect_refused(
         offset,
         cause,
     };
-    assert_eq!(rt;
-        decode(alloc, octets).err(),
-        Some(DecodeFault::Wrong(refused))
+    assert_equal!(rt; decode(alloc, octets).err(),
+        Some(DecodeFault::Wrong(refused)),
     );
 }
 
 // A value is encoded to these octets.
-fn expect_octets(rt: &impl Abort, alloc: Global, value: &Pdu, octets: &[u8]) {
+fn expect_octets(rt: &(impl Abort + Eprint), alloc: Global, value: &Pdu, octets: &[u8]) {
     let encoded = encode(alloc, value).expect(rt, "a value that is encoded");
-    assert!(rt; encoded.as_slice() == octets, "other octets");
+    assert_at!(rt; "other octets", encoded.as_slice() == octets);
 }
 
 // Octets are decoded, and the value is encoded to these.
-fn expect_canonical(rt: &impl Abort, alloc: Global, octets: &[u8], canonical: &[u8]) {
+fn expect_canonical(rt: &(impl Abort + Eprint), alloc: Global, octets: &[u8], canonical: &[u8]) {
     expect_octets(rt, alloc, &decoded(rt, alloc, octets), canonical);
 }
 
-fn a_bind_in_both_orders(rt: &impl Abort, alloc: Global) {
+fn a_bind_in_both_orders(rt: &(impl Abort + Eprint), alloc: Global) {
     let little = octets_of(rt, alloc, LITTLE[BIND]);
     let big = octets_of(rt, alloc, BIG[BIND]);
     let mut bind = decoded(rt, alloc, little.as_slice());
-    assert_eq!(rt; bind.call_id, 1);
-    assert_eq!(rt; bind.body.ptype(), Ptype::Bind);
+    assert_equal!(rt; bind.call_id, 1);
+    assert_equal!(rt; bind.body.ptype(), Ptype::Bind);
     expect_octets(
         rt,
         alloc,
@@ -95,7 +96,11 @@ static WRONG_BINDS: [(usize, usize, usize, Field, usize); 3] = [
     (72, 72, 71, Field::FragLength, 8),
 ];
 
-fn expect_refused_bind(rt: &impl Abort, alloc: Global, row: &(usize, usize, usize, Field, usize)) {
+fn expect_refused_bind(
+    rt: &(impl Abort + Eprint),
+    alloc: Global,
+    row: &(usize, usize, usize, Field, usize),
+) {
     let (zero, eight, length, field, offset) = *row;
     let mut octets = octets_of(rt, alloc, LITTLE[BIND]);
     overwrite(&mut octets, Endian::Big, zero, 1, 0);
@@ -138,7 +143,7 @@ fn wrong_values(field: Field, ptype: u8, length: u32) -> Option<[u32; 4]> {
 
 // A fragment with another number at a place is refused there.
 fn expect_wrong_value(
-    rt: &impl Abort,
+    rt: &(impl Abort + Eprint),
     alloc: Global,
     octets: &[u8],
     endian: Endian,
@@ -161,7 +166,7 @@ fn expect_wrong_value(
 // A fragment that is cut before this field, or within it, is refused at it. Its own length is right up to there, but that no
 // length below that of a header is right.
 fn expect_cut(
-    rt: &impl Abort,
+    rt: &(impl Abort + Eprint),
     alloc: Global,
     octets: &[u8],
     endian: Endian,
@@ -188,7 +193,7 @@ fn expect_cut(
 
 // A right fragment is refused with each wrong value of this field, and where it is cut there.
 fn is_refused_at(
-    rt: &impl Abort,
+    rt: &(impl Abort + Eprint),
     alloc: Global,
     octets: &[u8],
     endian: Endian,
@@ -207,7 +212,7 @@ fn is_refused_at(
     }
 }
 
-fn is_refused_at_each_field(rt: &impl Abort, alloc: Global, example: &str) {
+fn is_refused_at_each_field(rt: &(impl Abort + Eprint), alloc: Global, example: &str) {
     let octets = octets_of(rt, alloc, example);
     let octets = octets.as_slice();
     expect_canonical(rt, alloc, octets, octets);
@@ -228,7 +233,13 @@ fn each_kind_is_refused_at_each_field(rt: HostRuntime) {
 }
 
 // A shutdown with octets behind its header up to a length.
-fn expect_length(rt: &impl Abort, alloc: Global, endian: Endian, length: usize, right: bool) {
+fn expect_length(
+    rt: &(impl Abort + Eprint),
+    alloc: Global,
+    endian: Endian,
+    length: usize,
+    right: bool,
+) {
     let example = match endian {
         Endian::Little => LITTLE[SHUTDOWN],
         Endian::Big => BIG[SHUTDOWN],
@@ -254,13 +265,18 @@ fn a_length_is_right_up_to_its_limits(rt: HostRuntime) {
 }
 
 // A value is refused so, or encoded to octets that are decoded and encoded to the same.
-fn expect_encoding(rt: &impl Abort, alloc: Global, value: &Pdu, fault: Option<EncodeFault>) {
+fn expect_encoding(
+    rt: &(impl Abort + Eprint),
+    alloc: Global,
+    value: &Pdu,
+    fault: Option<EncodeFault>,
+) {
     match encode(alloc, value) {
         Ok(octets) => {
-            assert!(rt; fault.is_none(), "encoded");
+            assert_at!(rt; "encoded", fault.is_none());
             expect_canonical(rt, alloc, octets.as_slice(), octets.as_slice());
         }
-        Err(other) => assert_eq!(rt; Some(other), fault),
+        Err(other) => assert_equal!(rt; Some(other), fault),
     }
 }
 
@@ -303,7 +319,7 @@ fn request(
     pdu_of(Endian::Little, minor, flags, body)
 }
 
-fn expect_request(rt: &impl Abort, alloc: Global, row: &RequestRow) {
+fn expect_request(rt: &(impl Abort + Eprint), alloc: Global, row: &RequestRow) {
     let object = if row.named {
         Some(Uuid::from_bytes(INTERFACE))
     } else {
@@ -447,7 +463,7 @@ static BINDS: [(usize, usize, Option<Field>); 8] = [
 ];
 
 fn expect_bind(
-    rt: &impl Abort,
+    rt: &(impl Abort + Eprint),
     alloc: Global,
     endian: Endian,
     row: &(usize, usize, Option<Field>),
@@ -502,7 +518,7 @@ static ACKS: [(usize, u16, u16, Option<Field>); 6] = [
     (1, 0, 4, Some(Field::Reason)),
 ];
 
-fn expect_ack(rt: &impl Abort, alloc: Global, row: &(usize, u16, u16, Option<Field>)) {
+fn expect_ack(rt: &(impl Abort + Eprint), alloc: Global, row: &(usize, u16, u16, Option<Field>)) {
     let (count, outcome, reason, field) = *row;
     let answer = ack_with(rt, alloc, count, outcome, reason);
     expect_encoding(rt, alloc, &answer, unsound(field));
@@ -515,7 +531,7 @@ fn results_and_reasons_are_encoded_up_to_their_limits(rt: HostRuntime) {
     }
 }
 
-fn expect_nak(rt: &impl Abort, alloc: Global, count: usize, field: Option<Field>) {
+fn expect_nak(rt: &(impl Abort + Eprint), alloc: Global, count: usize, field: Option<Field>) {
     let mut protocols = Protocols::new(alloc).expect(rt, "memory");
     for _pair in 0..count {
         protocols
@@ -565,7 +581,7 @@ fn change(rt: &impl Abort, word: &mut u64, octets: &mut Vec<u8>) {
 }
 
 // Decodes octets as the plain reading does.
-fn expect_plain(rt: &impl Abort, alloc: Global, octets: &[u8]) {
+fn expect_plain(rt: &(impl Abort + Eprint), alloc: Global, octets: &[u8]) {
     let reading = plain::read(rt, alloc, octets);
     match reading.refused {
         Some(refused) => expect_refused(
@@ -581,7 +597,7 @@ fn expect_plain(rt: &impl Abort, alloc: Global, octets: &[u8]) {
 }
 
 // Compares the readings of an example that was changed at most twice.
-fn compare_changed(rt: &impl Abort, alloc: Global, word: &mut u64, example: &[u8]) {
+fn compare_changed(rt: &(impl Abort + Eprint), alloc: Global, word: &mut u64, example: &[u8]) {
     let mut octets = copy_of(rt, alloc, example);
     for _change in 0..draw(word, 3) {
         change(rt, word, &mut octets);
@@ -598,7 +614,7 @@ fn compare_changed(rt: &impl Abort, alloc: Global, word: &mut u64, example: &[u8
     expect_plain(rt, alloc, octets.as_slice());
 }
 
-fn compare_often(rt: &impl Abort, alloc: Global, word: &mut u64, example: &str) {
+fn compare_often(rt: &(impl Abort + Eprint), alloc: Global, word: &mut u64, example: &str) {
     let octets = octets_of(rt, alloc, example);
     for _round in 0..850 {
         compare_changed(rt, alloc, word, octets.as_slice());

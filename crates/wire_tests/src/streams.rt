@@ -1,11 +1,13 @@
 ghost use Rattle.std.specs.Prelude.{◌<◌};
 
+use assertions::{assert_at, assert_equal};
 use dts_base::{Field, Refused, WireCause};
 use ndr::DecodeFault;
 use pdu_fields::Pdu;
 use rpc_feed::Feed;
 use rpc_pdu::{decode, encode};
 use std::alloc::Global;
+use std::io::Eprint;
 use std::process::Abort;
 
 // A bind of call 1, the lowest octet first.
@@ -86,26 +88,26 @@ fn take_out(
 
 // A feed gives PDUs of these octets, then at most one refusal, and then none.
 fn expect_given(
-    rt: &impl Abort,
+    rt: &(impl Abort + Eprint),
     alloc: Global,
     feed: &mut Feed,
     octets: &[u8],
     fault: Option<DecodeFault>,
 ) {
     let mut given = Vec::new(alloc);
-    assert_eq!(rt; take_out(rt, alloc, feed, 2, &mut given), fault);
-    assert!(rt; given.as_slice() == octets, "other PDUs");
+    assert_equal!(rt; take_out(rt, alloc, feed, 2, &mut given), fault);
+    assert_at!(rt; "other PDUs", given.as_slice() == octets);
 }
 
 // Feeds octets one by one, behind which nothing is given but behind the last.
-fn put_each(rt: &impl Abort, alloc: Global, feed: &mut Feed, octets: &[u8]) {
+fn put_each(rt: &(impl Abort + Eprint), alloc: Global, feed: &mut Feed, octets: &[u8]) {
     for octet in octets {
         expect_given(rt, alloc, feed, &[], None);
         put(rt, alloc, feed, &[*octet]);
     }
 }
 
-fn a_bind_in_pieces(rt: &impl Abort, alloc: Global) {
+fn a_bind_in_pieces(rt: &(impl Abort + Eprint), alloc: Global) {
     let bind = octets_of(rt, alloc, BIND);
     let mut feed = new_feed(rt, alloc);
     put_each(rt, alloc, &mut feed, bind.as_slice());
@@ -118,9 +120,9 @@ fn a_bind_comes_in_pieces_of_one_octet(rt: HostRuntime) {
     a_bind_in_pieces(&rt, rt.alloc());
 }
 
-fn a_copied_feed(rt: &impl Abort, alloc: Global) {
+fn a_copied_feed(rt: &(impl Abort + Eprint), alloc: Global) {
     let bind = octets_of(rt, alloc, BIND);
-    assert_eq!(rt; bind.len(), 72);
+    assert!(rt; bind.len() == 72);
     let (front, rest) = bind.split_at(20);
     let mut feed = new_feed(rt, alloc);
     put(rt, alloc, &mut feed, front);
@@ -137,7 +139,7 @@ fn a_copy_goes_its_own_way(rt: HostRuntime) {
 
 // A bind with two octets changed is refused as soon as so many octets were fed, and so is a right bind behind it.
 fn expect_dead(
-    rt: &impl Abort,
+    rt: &(impl Abort + Eprint),
     alloc: Global,
     tenth: u8,
     thirtieth: u8,
@@ -221,7 +223,7 @@ fn put_in_pieces(
 
 // A hundred PDUs of all kinds, of which one has a minor version that is not right, are given up to it however they are cut.
 fn expect_hundred(
-    rt: &impl Abort,
+    rt: &(impl Abort + Eprint),
     alloc: Global,
     word: &mut u64,
     broken: usize,
@@ -235,8 +237,8 @@ fn expect_hundred(
     for _cutting in 0..10 {
         let mut given = Vec::new(alloc);
         let end = put_in_pieces(rt, alloc, word, stream.as_slice(), &mut given);
-        assert_eq!(rt; end, fault);
-        assert!(rt; given.as_slice() == alone.as_slice(), "other PDUs");
+        assert_equal!(rt; end, fault);
+        assert_at!(rt; "other PDUs", given.as_slice() == alone.as_slice());
     }
 }
 

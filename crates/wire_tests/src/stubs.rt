@@ -1,3 +1,4 @@
+use assertions::{assert_equal, assert_equal_at};
 use dts_base::{Field, Refused, WireCause};
 use ndr::*;
 use std::test::Fail;
@@ -13,20 +14,19 @@ fn refusal(field: Field, offset: u32, cause: WireCause) -> Refused {
 #[test]
 fn an_epoch_and_a_status_are_read(rt: HostRuntime) {
     let mut reader = Reader::new(&[5, 0, 0, 0, 2, 0, 0, 0], Endian::Little);
-    assert_eq!(rt; reader.u8(Field::Epoch), Ok(5));
-    assert_eq!(rt; reader.u32(Field::Status), Ok(2));
-    assert_eq!(rt; reader.finish(), Ok(()));
+    assert_equal!(rt; reader.u8(Field::Epoch), Ok(5));
+    assert_equal!(rt; reader.u32(Field::Status), Ok(2));
+    assert_equal!(rt; reader.finish(), Ok(()));
     let mut reader = Reader::new(&[5, 0, 0, 0, 2], Endian::Little);
-    assert_eq!(rt; reader.u8(Field::Epoch), Ok(5));
+    assert_equal!(rt; reader.u8(Field::Epoch), Ok(5));
     let short = refusal(Field::Status, 4, WireCause::Short);
-    assert_eq!(rt; reader.u32(Field::Status), Err(short));
-    assert_eq!(rt;
+    assert_equal!(rt; reader.u32(Field::Status), Err(short));
+    assert_equal_at!(rt; "after a refusal it is as it was",
         reader.u16(Field::Opnum),
         Ok(0),
-        "after a refusal it is as it was"
     );
     let extra = refusal(Field::Tail, 4, WireCause::Extra);
-    assert_eq!(rt; reader.finish(), Err(extra));
+    assert_equal!(rt; reader.finish(), Err(extra));
 }
 
 #[test]
@@ -52,14 +52,14 @@ fn numbers_and_octets_are_written_and_read_in_both_orders(rt: HostRuntime) -> Re
         writer.u32(rt.alloc(), 0x0405_0607)?;
         writer.octets(rt.alloc(), &[9])?;
         writer.u64(rt.alloc(), 0x0809_0a0b_0c0d_0e0f)?;
-        assert_eq!(rt; writer.done().as_slice(), octets);
+        assert_equal!(rt; writer.done().as_slice(), octets);
         let mut reader = Reader::new(octets, order);
-        assert_eq!(rt; reader.u8(Field::Epoch), Ok(1));
-        assert_eq!(rt; reader.u16(Field::Opnum), Ok(0x0203));
-        assert_eq!(rt; reader.u32(Field::Status), Ok(0x0405_0607));
-        assert_eq!(rt; reader.octets(Field::Stub, 1), Ok([9].as_slice()));
-        assert_eq!(rt; reader.u64(Field::Number), Ok(0x0809_0a0b_0c0d_0e0f));
-        assert_eq!(rt; reader.finish(), Ok(()));
+        assert_equal!(rt; reader.u8(Field::Epoch), Ok(1));
+        assert_equal!(rt; reader.u16(Field::Opnum), Ok(0x0203));
+        assert_equal!(rt; reader.u32(Field::Status), Ok(0x0405_0607));
+        assert_equal!(rt; reader.octets(Field::Stub, 1), Ok([9].as_slice()));
+        assert_equal!(rt; reader.u64(Field::Number), Ok(0x0809_0a0b_0c0d_0e0f));
+        assert_equal!(rt; reader.finish(), Ok(()));
     }
     Ok(())
 }
@@ -70,17 +70,17 @@ fn what_is_not_whole_is_short_behind_its_gap(rt: HostRuntime) {
     // How many octets there are, and the offset of a number of eight behind one.
     for (length, whole) in [(1, false), (7, false), (8, false), (15, false), (16, true)] {
         let mut reader = Reader::new(octets.get(..length).unwrap_or(&[]), Endian::Big);
-        assert_eq!(rt; reader.u8(Field::Epoch), Ok(1));
+        assert_equal!(rt; reader.u8(Field::Epoch), Ok(1));
         let short = refusal(Field::Number, 8, WireCause::Short);
         let read = reader.u64(Field::Number);
-        assert_eq!(rt; read, if whole { Ok(0) } else { Err(short) });
+        assert_equal!(rt; read, if whole { Ok(0) } else { Err(short) });
     }
     let mut reader = Reader::new(&[], Endian::Big);
     let short = refusal(Field::Epoch, 0, WireCause::Short);
-    assert_eq!(rt; reader.u8(Field::Epoch), Err(short));
-    assert_eq!(rt; reader.octets(Field::Stub, 0), Ok([].as_slice()));
+    assert_equal!(rt; reader.u8(Field::Epoch), Err(short));
+    assert_equal!(rt; reader.octets(Field::Stub, 0), Ok([].as_slice()));
     let short = refusal(Field::Stub, 0, WireCause::Short);
-    assert_eq!(rt; reader.octets(Field::Stub, 1), Err(short));
+    assert_equal!(rt; reader.octets(Field::Stub, 1), Err(short));
 }
 
 // The octets of a string with these counts, little-endian.
@@ -123,12 +123,11 @@ fn a_string_is_refused_at_its_first_wrong_part(rt: HostRuntime) -> Result<(), Fa
         string(counts, octets, &mut writer, &rt)?;
         let stub = writer.done();
         let mut reader = Reader::new(stub.as_slice(), Endian::Little);
-        assert_eq!(rt; reader.string(Field::Number), outcome);
+        assert_equal!(rt; reader.string(Field::Number), outcome);
         if outcome.is_err() {
-            assert_eq!(rt;
+            assert_equal_at!(rt; "it is as it was",
                 reader.u32(Field::MaxCount),
                 Ok(counts[0]),
-                "it is as it was"
             );
         }
     }
@@ -139,7 +138,7 @@ fn a_string_is_refused_at_its_first_wrong_part(rt: HostRuntime) -> Result<(), Fa
     ] {
         let octets = [1, 0, 0, 0, 0, 0, 0, 0, 1, 0, 0, 0];
         let mut reader = Reader::new(octets.get(..length).unwrap_or(&[]), Endian::Little);
-        assert_eq!(rt; reader.string(Field::Number), short(field, offset));
+        assert_equal!(rt; reader.string(Field::Number), short(field, offset));
     }
     Ok(())
 }
@@ -165,16 +164,16 @@ fn a_text_is_written_where_a_string_can_hold_it(rt: HostRuntime) -> Result<(), F
     for (text, outcome) in cases {
         let mut writer = Writer::new(rt.alloc(), Endian::Big)?;
         writer.u8(rt.alloc(), 1)?;
-        assert_eq!(rt; writer.string(rt.alloc(), text), outcome);
+        assert_equal!(rt; writer.string(rt.alloc(), text), outcome);
         writer.u8(rt.alloc(), 2)?;
         let stub = writer.done();
         let mut reader = Reader::new(stub.as_slice(), Endian::Big);
-        assert_eq!(rt; reader.u8(Field::Epoch), Ok(1));
+        assert_equal!(rt; reader.u8(Field::Epoch), Ok(1));
         if outcome.is_ok() {
-            assert_eq!(rt; reader.string(Field::Number), Ok(text.as_bytes()));
+            assert_equal!(rt; reader.string(Field::Number), Ok(text.as_bytes()));
         }
-        assert_eq!(rt; reader.u8(Field::Epoch), Ok(2));
-        assert_eq!(rt; reader.finish(), Ok(()));
+        assert_equal!(rt; reader.u8(Field::Epoch), Ok(2));
+        assert_equal!(rt; reader.finish(), Ok(()));
     }
     Ok(())
 }
@@ -183,28 +182,24 @@ fn a_text_is_written_where_a_string_can_hold_it(rt: HostRuntime) -> Result<(), F
 fn a_stub_has_at_most_so_many_octets(rt: HostRuntime) -> Result<(), Fail> {
     let most = vec![in rt.alloc(); 0u8; MAX_STUB]?;
     let mut writer = Writer::new(rt.alloc(), Endian::Big)?;
-    assert_eq!(rt; writer.octets(rt.alloc(), most.as_slice()), Ok(()));
-    assert_eq!(rt;
-        writer.u8(rt.alloc(), 1),
-        Err(WriteFault::TooLong { have: 65_537 })
+    assert_equal!(rt; writer.octets(rt.alloc(), most.as_slice()), Ok(()));
+    assert_equal!(rt; writer.u8(rt.alloc(), 1),
+        Err(WriteFault::TooLong { have: 65_537 }),
     );
-    assert_eq!(rt;
-        writer.string(rt.alloc(), ""),
-        Err(WriteFault::TooLong { have: 65_549 })
+    assert_equal!(rt; writer.string(rt.alloc(), ""),
+        Err(WriteFault::TooLong { have: 65_549 }),
     );
-    assert_eq!(rt;
-        writer.string(rt.alloc(), "\n"),
-        Err(WriteFault::StringValue)
+    assert_equal!(rt; writer.string(rt.alloc(), "\n"),
+        Err(WriteFault::StringValue),
     );
-    assert_eq!(rt; writer.octets(rt.alloc(), &[]), Ok(()));
-    assert_eq!(rt; writer.done().as_slice().len(), 65_536);
+    assert_equal!(rt; writer.octets(rt.alloc(), &[]), Ok(()));
+    assert_equal!(rt; writer.done().as_slice().len(), 65_536);
     let mut writer = Writer::new(rt.alloc(), Endian::Big)?;
     writer.octets(rt.alloc(), most.as_slice().get(1..).unwrap_or(&[]))?;
-    assert_eq!(rt;
-        writer.u16(rt.alloc(), 1),
-        Err(WriteFault::TooLong { have: 65_538 })
+    assert_equal!(rt; writer.u16(rt.alloc(), 1),
+        Err(WriteFault::TooLong { have: 65_538 }),
     );
-    assert_eq!(rt; writer.u8(rt.alloc(), 1), Ok(()));
+    assert_equal!(rt; writer.u8(rt.alloc(), 1), Ok(()));
     Ok(())
 }
 
@@ -219,7 +214,7 @@ fn faults_have_texts(rt: HostRuntime) -> Result<(), Fail> {
         (WriteFault::NoMemory, "out of memory"),
     ];
     for (fault, text) in texts {
-        assert_eq!(rt; fault.to_string(rt.alloc())?.as_str(), text);
+        assert_equal!(rt; fault.to_string(rt.alloc())?.as_str(), text);
     }
     Ok(())
 }
