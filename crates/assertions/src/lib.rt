@@ -2,11 +2,15 @@
 //! is made here and not in the test, so that a test is proved much faster than with `assert_eq!`.
 #![tactic(auto)]
 
+ghost use Rattle.std.specs.Prelude.{◌≡◌};
+
 use std::fmt::Debug;
 use std::io::Eprint;
 
 /// Whether a value is the wanted one. If not, both are told on standard error.
-pub fn is_equal<T: PartialEq + Debug + Drop>(rt: &impl Eprint, got: T, wanted: T) -> bool {
+pub fn is_equal<T: PartialEq + Debug + Drop>(rt: &impl Eprint, got: T, wanted: T) -> bool
+    ensures answer { result ≡ T.eq got wanted }
+{
     if got == wanted {
         return true;
     }
@@ -20,12 +24,16 @@ pub fn is_equal_at<R: Debug, T: PartialEq + Debug + Drop>(
     row: &R,
     got: T,
     wanted: T,
-) -> bool {
+) -> bool
+    ensures answer { result ≡ T.eq got wanted }
+{
     is_true_at(rt, row, is_equal(rt, got, wanted))
 }
 
 /// Whether something holds. If not, the row of the table, or the case, is told on standard error.
-pub fn is_true_at<R: Debug>(rt: &impl Eprint, row: &R, holds: bool) -> bool {
+pub fn is_true_at<R: Debug>(rt: &impl Eprint, row: &R, holds: bool) -> bool
+    ensures answer { result ≡ holds }
+{
     if !holds {
         let _ = eprintln!(rt; "at {row:?}");
     }
