@@ -1,5 +1,5 @@
-//! Tests of the slewed clock, of adopted intervals, and of the lines of captures and logs. They stand apart from the crates, which are so proved
-//! without them.
+//! Tests of the slewed clock, of adopted intervals and rounds of queries, of the lines of captures and logs, and of the
+//! rules over histories and the replay of captures. They stand apart from the crates, which are so proved without them.
 #![tactic(auto)]
 
 #[cfg(test)]
@@ -8,3 +8,11 @@ mod adoption;
 mod captures;
 #[cfg(test)]
 mod clock;
+#[cfg(test)]
+mod drills;
+#[cfg(test)]
+mod replay;
+#[cfg(test)]
+mod rounds;
+#[cfg(test)]
+mod rules;

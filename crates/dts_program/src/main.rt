@@ -7,8 +7,6 @@ ghost use Rattle.std.specs.Prelude.{◌≡◌, IfOk, vec_len};
 mod command;
 mod outside;
 mod status;
-#[cfg(test)]
-mod tests;
 
 use crate::outside::{Outside, ServeSide, run};
 use crate::status::{SinkName, SourceName, Status};

@@ -5,7 +5,7 @@ use utc_calculator::UtcCause;
 use utc_order::OrderCause;
 
 /// The sources of the program.
-#[derive(Clone, Copy, Debug, PartialEq, Eq, Error)]
+#[derive(Clone, Copy, Debug, Error)]
 pub enum SourceName {
     /// Standard input.
     #[error("the input")]
@@ -16,7 +16,7 @@ pub enum SourceName {
 }
 
 /// The sinks of the program.
-#[derive(Clone, Copy, Debug, PartialEq, Eq, Error)]
+#[derive(Clone, Copy, Debug, Error)]
 pub enum SinkName {
     /// Standard output.
     #[error("the output")]
@@ -39,7 +39,7 @@ pub enum SinkName {
 }
 
 /// What a command answers.
-#[derive(Debug, PartialEq, Eq, Drop, Error)]
+#[derive(Debug, Drop, Error)]
 pub enum Status {
     /// The input was read to its end.
     #[error("done")]

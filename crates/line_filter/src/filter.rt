@@ -107,7 +107,7 @@ fn refused<C>(before: u64, cause: C) -> Stop<C>
 }
 
 // Takes the line behind so many others, and leaves the text that it gives in `text`.
-pub(crate) fn take_line<F: LineFilter>(
+fn take_line<F: LineFilter>(
     alloc: Global,
     filter: &mut F,
     before: u64,
@@ -164,7 +164,7 @@ pub fn filter_lines<F: LineFilter, I: Source, O: Sink>(
 }
 
 // Takes the lines behind so many others, which the reader took, and writes their texts.
-pub(crate) fn filter_behind<F: LineFilter, I: Source, O: Sink>(
+fn filter_behind<F: LineFilter, I: Source, O: Sink>(
     alloc: Global,
     filter: &mut F,
     mut before: u64,

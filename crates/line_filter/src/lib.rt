@@ -11,6 +11,3 @@ pub use laws::{
     each_input_is_settled, one_way_to_end, too_many_comes_first, valid_input_is_not_refused,
 };
 pub use stop::Stop;
-
-#[cfg(test)]
-mod tests;

@@ -91,6 +91,37 @@ fn drained<S: Source>(alloc: Global, source: &mut S) -> Result<(Vec<u8>, usize),
     Ok((octets, failed))
 }
 
+// What came of reading a source to its end, and once more.
+#[derive(Debug, PartialEq, Drop)]
+struct ReadOutcome {
+    octets: Vec<u8>,
+    failed: usize,
+    more: Result<usize, Failed>,
+    faults: (Option<ErrorKind>, Option<ErrorKind>),
+}
+
+// Reads a reader that moves at most so many octets at once, by these steps.
+fn drained_by(
+    alloc: Global,
+    octets: &[u8],
+    most: usize,
+    steps: &[Step],
+) -> Result<ReadOutcome, AllocError> {
+    let mut source = ReaderSource::new(FakeReader {
+        left: octets,
+        most,
+        steps,
+    });
+    let before = source.fault();
+    let (octets, failed) = drained(alloc, &mut source)?;
+    Ok(ReadOutcome {
+        octets,
+        failed,
+        more: source.read(&mut [0u8; 8]),
+        faults: (before, source.fault()),
+    })
+}
+
 #[test]
 fn a_reader_loses_doubles_and_hides_nothing(rt: HostRuntime) -> Result<(), Fail> {
     let whole = octets(rt.alloc())?;
@@ -125,21 +156,15 @@ fn a_reader_loses_doubles_and_hides_nothing(rt: HostRuntime) -> Result<(), Fail>
             Some(ErrorKind::ResourceBusy),
         ),
     ];
-    for (most, steps, faults, said) in cases {
-        let mut source = ReaderSource::new(FakeReader {
-            left: whole.as_slice(),
-            most,
-            steps,
-        });
-        assert_equal_at!(rt; "no read failed yet", source.fault(), None);
-        let (read, failed) = drained(rt.alloc(), &mut source)?;
-        assert_equal!(rt; read.as_slice(), whole.as_slice());
-        assert_equal!(rt; failed, faults);
-        assert_equal_at!(rt; "it stays at its end",
-            source.read(&mut [0u8; 8]),
-            Ok(0),
-        );
-        assert_equal_at!(rt; "the last fault is kept", source.fault(), said);
+    for (most, steps, failed, fault) in cases {
+        let wanted = ReadOutcome {
+            octets: octets(rt.alloc())?,
+            failed,
+            more: Ok(0),
+            faults: (None, fault),
+        };
+        let got = drained_by(rt.alloc(), whole.as_slice(), most, steps)?;
+        assert_at!(rt; (most, failed, fault), got == wanted);
     }
     Ok(())
 }
@@ -153,6 +178,35 @@ fn a_reader_gives_what_came_at_once(rt: HostRuntime) -> Result<(), Fail> {
     assert!(rt; buf.starts_with(whole.as_slice()));
     assert_equal!(rt; source.read(&mut buf), Ok(0));
     Ok(())
+}
+
+// What came of writing the octets, and then nothing.
+#[derive(Debug, PartialEq, Drop)]
+struct WriteOutcome {
+    taken: Vec<u8>,
+    ended: Result<(), Failed>,
+    nothing: Result<usize, Failed>,
+    faults: (Option<ErrorKind>, Option<ErrorKind>),
+}
+
+// Writes the octets to a writer that moves at most so many at once, by these steps.
+fn filled_by(alloc: Global, octets: &[u8], most: usize, steps: &[Step]) -> WriteOutcome {
+    let mut writer = FakeWriter {
+        taken: Vec::new(alloc),
+        most,
+        steps,
+    };
+    let mut sink = WriterSink::new(&mut writer);
+    let before = sink.fault();
+    let ended = write_all(&mut sink, octets);
+    let nothing = sink.write(b"");
+    let faults = (before, sink.fault());
+    WriteOutcome {
+        taken: writer.taken,
+        ended,
+        nothing,
+        faults,
+    }
 }
 
 #[test]
@@ -182,20 +236,17 @@ fn a_writer_loses_doubles_and_hides_nothing(rt: HostRuntime) -> Result<(), Fail>
             Some(ErrorKind::WriteZero),
         ),
     ];
-    for (most, steps, count, said) in cases {
-        let mut writer = FakeWriter {
-            taken: Vec::new(rt.alloc()),
-            most,
-            steps,
+    for (most, steps, count, fault) in cases {
+        let mut taken = octets(rt.alloc())?;
+        taken.truncate(count);
+        let wanted = WriteOutcome {
+            taken,
+            ended: if fault.is_none() { Ok(()) } else { Err(Failed) },
+            nothing: Ok(0),
+            faults: (None, fault),
         };
-        let mut sink = WriterSink::new(&mut writer);
-        assert_equal_at!(rt; "no write failed yet", sink.fault(), None);
-        let outcome = write_all(&mut sink, whole.as_slice());
-        assert_equal!(rt; outcome.is_err(), said.is_some());
-        assert_equal_at!(rt; "nothing is nothing taken", sink.write(b""), Ok(0));
-        assert_equal_at!(rt; "the last fault is kept", sink.fault(), said);
-        assert_equal!(rt; writer.taken.len(), count);
-        assert!(rt; whole.starts_with(writer.taken.as_slice()));
+        let got = filled_by(rt.alloc(), whole.as_slice(), most, steps);
+        assert_at!(rt; (most, count, fault), got == wanted);
     }
     Ok(())
 }
@@ -221,12 +272,9 @@ fn expect_octets<S: Source>(
 fn a_file_is_opened_at_its_first_use(rt: HostRuntime) -> Result<(), Fail> {
     let whole = octets(rt.alloc())?;
     let mut source = FileSource::new(&rt, "late.toml");
-    assert_equal!(rt; source.fault(), None);
-    assert_equal_at!(rt; "it is not there",
-        source.read(&mut [0u8; 8]),
-        Err(Failed),
-    );
-    assert_equal!(rt; source.fault(), Some(ErrorKind::NotFound));
+    let before = source.fault();
+    let read = source.read(&mut [0u8; 8]);
+    assert_equal_at!(rt; "it is not there", (before, read), (None, Err(Failed)));
     let mut sink = WriterSink::new(fs::create(&rt, "late.toml")?);
     assert_equal!(rt; write_all(&mut sink, whole.as_slice()), Ok(()));
     expect_octets(&rt, rt.alloc(), &mut source, &whole)?;
@@ -243,10 +291,11 @@ fn a_folder_has_no_octets(rt: HostRuntime) -> Result<(), Fail> {
     let mut by_path = FileSource::new(&rt, ".");
     let mut opened = ReaderSource::new(fs::open(&rt, ".")?);
     for _ in 0..2 {
-        assert_equal!(rt; by_path.read(&mut [0u8; 8]), Err(Failed));
-        assert_equal!(rt; by_path.fault(), Some(ErrorKind::IsADirectory));
-        assert_equal!(rt; opened.read(&mut [0u8; 8]), Err(Failed));
-        assert_equal!(rt; opened.fault(), Some(ErrorKind::IsADirectory));
+        let read = (by_path.read(&mut [0u8; 8]), opened.read(&mut [0u8; 8]));
+        assert_equal!(rt; read, (Err(Failed), Err(Failed)));
+        let faults = (by_path.fault(), opened.fault());
+        let folder = Some(ErrorKind::IsADirectory);
+        assert_equal!(rt; faults, (folder, folder));
     }
     Ok(())
 }
@@ -266,16 +315,16 @@ fn a_pipe_that_the_other_side_closed_fails(rt: HostRuntime) -> Result<(), Fail> 
     let (reader, writer) = io::pipe(&rt)?;
     drop(reader);
     let mut sink = WriterSink::new(writer);
-    assert_equal!(rt; sink.write(b"x"), Err(Failed));
-    assert_equal!(rt; sink.fault(), Some(ErrorKind::BrokenPipe));
+    let written = sink.write(b"x");
+    assert_equal!(rt; (written, sink.fault()), (Err(Failed), Some(ErrorKind::BrokenPipe)));
     Ok(())
 }
 
 #[test]
 fn a_device_that_is_full_fails(rt: HostRuntime) -> Result<(), Fail> {
     let mut sink = WriterSink::new(File::options().write(true).open(&rt, "/dev/full")?);
-    assert_equal!(rt; sink.write(b"x"), Err(Failed));
-    assert_equal!(rt; sink.fault(), Some(ErrorKind::StorageFull));
+    let written = sink.write(b"x");
+    assert_equal!(rt; (written, sink.fault()), (Err(Failed), Some(ErrorKind::StorageFull)));
     Ok(())
 }
 

@@ -1,10 +1,9 @@
 ghost use Rattle.std.specs.Prelude.{None};
 
-use assertions::{assert_equal, assert_equal_at};
-use dts_base::{Failed, MemorySource, Source};
+use assertions::{assert_at, assert_equal, assert_equal_at};
+use dts_base::{Failed, MemorySource, NoMemory, Source};
 use line_reader::*;
-use std::io::Eprint;
-use std::process::Abort;
+use std::alloc::Global;
 use std::test::Fail;
 
 // A source that gives at most so many octets at once, and counts its calls.
@@ -39,31 +38,32 @@ impl Source for Pieces<'_> {
     }
 }
 
-fn expect_line<I: Source>(
-    rt: &(impl Abort + Eprint),
-    reader: &mut LineReader,
-    input: &mut I,
-    line: &[u8],
-) {
-    assert_equal!(rt; reader.advance(input), Ok(true));
-    assert_equal!(rt; reader.line(), line);
+// The reader gives this line of the input next.
+fn is_next<I: Source>(reader: &mut LineReader, input: &mut I, line: &[u8]) -> bool {
+    reader.advance(input) == Ok(true) && reader.line() == line
 }
 
-fn expect_end<I: Source>(rt: &(impl Abort + Eprint), reader: &mut LineReader, input: &mut I) {
-    assert_equal!(rt; reader.advance(input), Ok(false));
-    assert_equal_at!(rt; "once more", reader.advance(input), Ok(false));
+// The input has ended, and the reader tells that once more.
+fn is_at_end<I: Source>(reader: &mut LineReader, input: &mut I) -> bool {
+    reader.advance(input) == Ok(false) && reader.advance(input) == Ok(false)
+}
+
+// The input has these lines, and then its end.
+fn has_lines<I: Source>(alloc: Global, input: &mut I, lines: &[&[u8]]) -> Result<bool, NoMemory> {
+    let mut reader = LineReader::new(alloc)?;
+    for line in lines {
+        if !is_next(&mut reader, input, line) {
+            return Ok(false);
+        }
+    }
+    Ok(is_at_end(&mut reader, input))
 }
 
 #[test]
 fn each_octet_but_the_line_feed_belongs_to_its_line(rt: HostRuntime) -> Result<(), Fail> {
     let mut source = MemorySource::new(rt.alloc(), b"one\r\n\n\0\xff two\xc3\xa4\n\nlast", &[])?;
-    let mut reader = LineReader::new(rt.alloc())?;
-    expect_line(&rt, &mut reader, &mut source, b"one\r");
-    expect_line(&rt, &mut reader, &mut source, b"");
-    expect_line(&rt, &mut reader, &mut source, b"\0\xff two\xc3\xa4");
-    expect_line(&rt, &mut reader, &mut source, b"");
-    expect_line(&rt, &mut reader, &mut source, b"last");
-    expect_end(&rt, &mut reader, &mut source);
+    let lines: [&[u8]; 5] = [b"one\r", b"", b"\0\xff two\xc3\xa4", b"", b"last"];
+    assert!(rt; has_lines(rt.alloc(), &mut source, &lines)?);
     Ok(())
 }
 
@@ -71,11 +71,7 @@ fn each_octet_but_the_line_feed_belongs_to_its_line(rt: HostRuntime) -> Result<(
 fn a_line_feed_at_the_end_begins_no_line(rt: HostRuntime) -> Result<(), Fail> {
     for most in 1..5 {
         let mut source = Pieces::new(b"one\n\ntwo\n", most);
-        let mut reader = LineReader::new(rt.alloc())?;
-        expect_line(&rt, &mut reader, &mut source, b"one");
-        expect_line(&rt, &mut reader, &mut source, b"");
-        expect_line(&rt, &mut reader, &mut source, b"two");
-        expect_end(&rt, &mut reader, &mut source);
+        assert_at!(rt; most, has_lines(rt.alloc(), &mut source, &[b"one", b"", b"two"])?);
     }
     Ok(())
 }
@@ -83,8 +79,7 @@ fn a_line_feed_at_the_end_begins_no_line(rt: HostRuntime) -> Result<(), Fail> {
 #[test]
 fn an_empty_input_has_no_line(rt: HostRuntime) -> Result<(), Fail> {
     let mut source = MemorySource::new(rt.alloc(), b"", &[])?;
-    let mut reader = LineReader::new(rt.alloc())?;
-    expect_end(&rt, &mut reader, &mut source);
+    assert!(rt; has_lines(rt.alloc(), &mut source, &[])?);
     Ok(())
 }
 
@@ -95,10 +90,8 @@ fn a_line_has_up_to_16384_octets(rt: HostRuntime) -> Result<(), Fail> {
     octets.extend_from_slice(b"\nnext")?;
     for most in [1, 1000, 65_536] {
         let mut source = Pieces::new(octets.as_slice(), most);
-        let mut reader = LineReader::new(rt.alloc())?;
-        expect_line(&rt, &mut reader, &mut source, line.as_slice());
-        expect_line(&rt, &mut reader, &mut source, b"next");
-        expect_end(&rt, &mut reader, &mut source);
+        let lines: [&[u8]; 2] = [line.as_slice(), b"next"];
+        assert_at!(rt; most, has_lines(rt.alloc(), &mut source, &lines)?);
     }
     Ok(())
 }
@@ -110,11 +103,8 @@ fn a_longer_line_is_cut(rt: HostRuntime) -> Result<(), Fail> {
     octets.extend_from_slice(b"y\nnext")?;
     for most in [1, 1000, 65_536] {
         let mut source = Pieces::new(octets.as_slice(), most);
-        let mut reader = LineReader::new(rt.alloc())?;
-        expect_line(&rt, &mut reader, &mut source, beginning.as_slice());
-        expect_line(&rt, &mut reader, &mut source, b"y");
-        expect_line(&rt, &mut reader, &mut source, b"next");
-        expect_end(&rt, &mut reader, &mut source);
+        let lines: [&[u8]; 3] = [beginning.as_slice(), b"y", b"next"];
+        assert_at!(rt; most, has_lines(rt.alloc(), &mut source, &lines)?);
     }
     Ok(())
 }
@@ -129,9 +119,9 @@ fn an_input_may_be_longer_than_the_buffer(rt: HostRuntime) -> Result<(), Fail> {
     let mut reader = LineReader::new(rt.alloc())?;
     for number in 0..10_000 {
         let line = format!(in rt.alloc(); "line {number}")?;
-        expect_line(&rt, &mut reader, &mut source, line.as_bytes());
+        assert!(rt; is_next(&mut reader, &mut source, line.as_bytes()));
     }
-    expect_end(&rt, &mut reader, &mut source);
+    assert!(rt; is_at_end(&mut reader, &mut source));
     Ok(())
 }
 
@@ -140,14 +130,13 @@ fn a_failed_read_loses_nothing(rt: HostRuntime) -> Result<(), Fail> {
     let mut source = MemorySource::new(rt.alloc(), b"one\ntwo", &[1, 3])?;
     let mut reader = LineReader::new(rt.alloc())?;
     assert_equal!(rt; reader.advance(&mut source), Err(Failed));
-    expect_line(&rt, &mut reader, &mut source, b"one");
+    assert!(rt; is_next(&mut reader, &mut source, b"one"));
     assert_equal_at!(rt; "behind the octets of a line",
-        reader.advance(&mut source),
-        Err(Failed),
+        (reader.advance(&mut source), reader.line()),
+        (Err(Failed), b"".as_slice()),
     );
-    assert_equal!(rt; reader.line(), b"".as_slice());
-    expect_line(&rt, &mut reader, &mut source, b"two");
-    expect_end(&rt, &mut reader, &mut source);
+    assert!(rt; is_next(&mut reader, &mut source, b"two"));
+    assert!(rt; is_at_end(&mut reader, &mut source));
     Ok(())
 }
 
@@ -155,13 +144,12 @@ fn a_failed_read_loses_nothing(rt: HostRuntime) -> Result<(), Fail> {
 fn a_source_that_has_ended_is_read_no_more(rt: HostRuntime) -> Result<(), Fail> {
     let mut source = Pieces::new(b"one\ntwo", 100);
     let mut reader = LineReader::new(rt.alloc())?;
-    expect_line(&rt, &mut reader, &mut source, b"one");
-    expect_line(&rt, &mut reader, &mut source, b"two");
+    assert!(rt; is_next(&mut reader, &mut source, b"one"));
+    assert!(rt; is_next(&mut reader, &mut source, b"two"));
     assert_equal_at!(rt; "the second gave nothing", source.calls, 2);
     source.octets = b"three\n";
-    expect_end(&rt, &mut reader, &mut source);
-    assert_equal!(rt; source.calls, 2);
-    assert_equal!(rt; reader.line(), b"".as_slice());
+    assert!(rt; is_at_end(&mut reader, &mut source));
+    assert_equal!(rt; (source.calls, reader.line()), (2, b"".as_slice()));
     Ok(())
 }
 
@@ -187,12 +175,12 @@ fn fields_stand_at_columns(rt: HostRuntime) -> Result<(), Fail> {
     for (line, expected, end) in rows {
         let mut fields = Fields::new(line);
         for (field, column) in expected {
-            assert_equal!(rt; fields.next(), Some(*field));
-            assert_equal!(rt; fields.column(), *column);
+            let found = (fields.next(), fields.column());
+            assert_equal!(rt; found, (Some(*field), *column));
         }
         for _ in 0..2 {
-            assert_equal!(rt; fields.next(), None);
-            assert_equal!(rt; fields.column(), end);
+            let found = (fields.next(), fields.column());
+            assert_equal!(rt; found, (None, end));
         }
     }
     Ok(())
@@ -200,68 +188,53 @@ fn fields_stand_at_columns(rt: HostRuntime) -> Result<(), Fail> {
 
 #[test]
 fn numbers_are_decimal_and_in_their_range(rt: HostRuntime) -> Result<(), Fail> {
-    let rows: [(&[u8], Result<i128, NumberFault>); 24] = [
-        (b"0", Ok(0)),
-        (b"7", Ok(7)),
-        (b"-1", Ok(-1)),
-        (b"-20", Ok(-20)),
-        (b"-21", Err(NumberFault::Range)),
-        (b"1000", Ok(1000)),
-        (b"1001", Err(NumberFault::Range)),
-        (
-            b"170141183460469231731687303715884105727",
-            Err(NumberFault::Range),
-        ),
-        (
-            b"170141183460469231731687303715884105728",
-            Err(NumberFault::Range),
-        ),
-        (
-            b"-170141183460469231731687303715884105729",
-            Err(NumberFault::Range),
-        ),
-        (
-            b"10000000000000000000000000000000000000000000000000000000000000000",
-            Err(NumberFault::Range),
-        ),
-        (
-            b"-10000000000000000000000000000000000000000000000000000000000000000",
-            Err(NumberFault::Range),
-        ),
-        (b"", Err(NumberFault::Form)),
-        (b"-", Err(NumberFault::Form)),
-        (b"+7", Err(NumberFault::Form)),
-        (b"--7", Err(NumberFault::Form)),
-        (b"00", Err(NumberFault::Form)),
-        (b"07", Err(NumberFault::Form)),
-        (b"-0", Err(NumberFault::Form)),
-        (b"-07", Err(NumberFault::Form)),
-        (b"7 ", Err(NumberFault::Form)),
-        (b"0x7", Err(NumberFault::Form)),
-        (b"7\xff", Err(NumberFault::Form)),
-        (
-            b"1000000000000000000000000000000000000000000000000000000000000000x",
-            Err(NumberFault::Form),
-        ),
+    let numbers: [(&[u8], i128); 5] = [
+        (b"0", 0),
+        (b"7", 7),
+        (b"-1", -1),
+        (b"-20", -20),
+        (b"1000", 1000),
     ];
-    for (field, expected) in rows {
-        assert_equal!(rt; number_in(field, -20, 1000), expected);
+    for (field, number) in numbers {
+        assert_equal!(rt; number_in(field, -20, 1000), Ok(number));
     }
-    let widest = number_in(
-        b"-170141183460469231731687303715884105728",
-        i128::MIN,
-        i128::MAX,
-    );
-    assert_equal!(rt; widest, Ok(i128::MIN));
-    let widest = number_in(
+    let out_of_range: [&[u8]; 7] = [
+        b"-21",
+        b"1001",
         b"170141183460469231731687303715884105727",
-        i128::MIN,
-        i128::MAX,
-    );
-    assert_equal!(rt; widest, Ok(i128::MAX));
-    let form = format!(in rt.alloc(); "{}", NumberFault::Form)?;
-    assert_equal!(rt; form.as_str(), "no decimal number");
-    let range = format!(in rt.alloc(); "{}", NumberFault::Range)?;
-    assert_equal!(rt; range.as_str(), "a number out of range");
+        b"170141183460469231731687303715884105728",
+        b"-170141183460469231731687303715884105729",
+        b"10000000000000000000000000000000000000000000000000000000000000000",
+        b"-10000000000000000000000000000000000000000000000000000000000000000",
+    ];
+    for field in out_of_range {
+        assert_equal_at!(rt; field, number_in(field, -20, 1000), Err(NumberFault::Range));
+    }
+    let of_no_form: [&[u8]; 12] = [
+        b"",
+        b"-",
+        b"+7",
+        b"--7",
+        b"00",
+        b"07",
+        b"-0",
+        b"-07",
+        b"7 ",
+        b"0x7",
+        b"7\xff",
+        b"1000000000000000000000000000000000000000000000000000000000000000x",
+    ];
+    for field in of_no_form {
+        assert_equal_at!(rt; field, number_in(field, -20, 1000), Err(NumberFault::Form));
+    }
+    let widest: [(&[u8], i128); 2] = [
+        (b"-170141183460469231731687303715884105728", i128::MIN),
+        (b"170141183460469231731687303715884105727", i128::MAX),
+    ];
+    for (field, number) in widest {
+        assert_equal!(rt; number_in(field, i128::MIN, i128::MAX), Ok(number));
+    }
+    let texts = format!(in rt.alloc(); "{}, {}", NumberFault::Form, NumberFault::Range)?;
+    assert_equal!(rt; texts.as_str(), "no decimal number, a number out of range");
     Ok(())
 }

@@ -1,5 +1,6 @@
 use assertions::{assert_equal, assert_equal_at};
 use dts_base::*;
+use std::alloc::Global;
 use std::test::Fail;
 
 const ADDRESS: Address = Address {
@@ -10,37 +11,39 @@ const ADDRESS: Address = Address {
 #[test]
 fn octets_are_kept(rt: HostRuntime) -> Result<(), Fail> {
     let bytes = Bytes::from_slice(rt.alloc(), b"abc")?;
-    let text = Text::from_slice(rt.alloc(), bytes.as_slice())?;
-    assert_equal!(rt; text.as_slice(), b"abc".as_slice());
-    let text = Text::from_vec(bytes.into_vec());
-    assert_equal!(rt; text.as_slice(), b"abc".as_slice());
-    let bytes = Bytes::from_vec(text.into_vec());
-    assert_equal!(rt; bytes.as_slice(), b"abc".as_slice());
+    let copy = Text::from_slice(rt.alloc(), bytes.as_slice())?;
+    let bytes = Bytes::from_vec(Text::from_vec(bytes.into_vec()).into_vec());
+    let wanted = b"abc".as_slice();
+    assert_equal!(rt; (copy.as_slice(), bytes.as_slice()), (wanted, wanted));
     Ok(())
+}
+
+// Whether octets are equal as bytes, and whether they are as a text.
+fn are_equal(alloc: Global, octets: &[u8], other: &[u8]) -> Result<(bool, bool), NoMemory> {
+    let bytes = Bytes::from_slice(alloc, octets)? == Bytes::from_slice(alloc, other)?;
+    let texts = Text::from_slice(alloc, octets)? == Text::from_slice(alloc, other)?;
+    Ok((bytes, texts))
+}
+
+// What a link keeps of octets that were sent to a peer.
+fn sent(alloc: Global, peer: u32, octets: &[u8]) -> Result<Sent, NoMemory> {
+    let bytes = Bytes::from_slice(alloc, octets)?;
+    Ok(Sent { peer, bytes })
 }
 
 #[test]
 fn octets_are_compared(rt: HostRuntime) -> Result<(), Fail> {
-    for other in [b"abd".as_slice(), b"ab", b"abcd", b""] {
-        assert_ne!(rt;
-            Bytes::from_slice(rt.alloc(), b"abc")?,
-            Bytes::from_slice(rt.alloc(), other)?
-        );
-        assert_ne!(rt;
-            Text::from_slice(rt.alloc(), b"abc")?,
-            Text::from_slice(rt.alloc(), other)?
-        );
+    for (other, equal) in [
+        (b"abc".as_slice(), true),
+        (b"abd", false),
+        (b"ab", false),
+        (b"abcd", false),
+        (b"", false),
+    ] {
+        assert_equal_at!(rt; other, are_equal(rt.alloc(), b"abc", other)?, (equal, equal));
     }
-    let bytes = Bytes::from_slice(rt.alloc(), b"abc")?;
-    assert_equal!(rt; Sent { peer: 1, bytes },
-        Sent {
-            peer: 1,
-            bytes: Bytes::from_slice(rt.alloc(), b"abc")?,
-        },
-    );
-    assert_equal!(rt; Text::from_slice(rt.alloc(), b"")?,
-        Text::from_slice(rt.alloc(), b"")?,
-    );
+    assert_equal!(rt; are_equal(rt.alloc(), b"", b"")?, (true, true));
+    assert_equal!(rt; sent(rt.alloc(), 1, b"abc")?, sent(rt.alloc(), 1, b"abc")?);
     Ok(())
 }
 
@@ -48,25 +51,21 @@ fn octets_are_compared(rt: HostRuntime) -> Result<(), Fail> {
 fn a_source_is_read_in_pieces_to_its_end(rt: HostRuntime) -> Result<(), Fail> {
     let mut source = MemorySource::new(rt.alloc(), b"hello", &[2])?;
     let mut buf = [0u8; 3];
-    assert_equal!(rt; source.read(&mut buf), Ok(3));
-    assert_equal!(rt; buf, *b"hel");
-    assert_equal_at!(rt; "the second call fails",
-        source.read(&mut buf),
-        Err(Failed),
-    );
-    assert_equal_at!(rt; "and has read nothing", source.read(&mut buf), Ok(2));
-    assert_equal!(rt; source.read(&mut buf), Ok(0));
+    let read = source.read(&mut buf);
+    assert_equal!(rt; (read, buf), (Ok(3), *b"hel"));
+    // the second call fails, and has read nothing
+    let read = [0u8; 3].map(|_| source.read(&mut buf));
+    assert_equal!(rt; read, [Err(Failed), Ok(2), Ok(0)]);
     Ok(())
 }
 
 #[test]
 fn a_failing_sink_keeps_what_was_written(rt: HostRuntime) -> Result<(), Fail> {
     let mut sink = MemorySink::new(rt.alloc(), &[2])?;
-    assert_equal!(rt; write_all(&mut sink, b"one"), Ok(()));
-    assert_equal!(rt; write_all(&mut sink, b"two"), Err(Failed));
-    assert_equal!(rt; write_all(&mut sink, b"three"), Ok(()));
-    assert_equal!(rt; sink.written(), b"onethree".as_slice());
-    assert_equal!(rt; sink.starved(), 0);
+    let pieces: [&[u8]; 3] = [b"one", b"two", b"three"];
+    let answers = pieces.map(|piece| write_all(&mut sink, piece));
+    assert_equal!(rt; answers, [Ok(()), Err(Failed), Ok(())]);
+    assert_equal!(rt; (sink.written(), sink.starved()), (b"onethree".as_slice(), 0));
     Ok(())
 }
 
@@ -76,13 +75,21 @@ fn numbers_of_a_script_are_given_once_and_the_last_again(rt: HostRuntime) -> Res
     let mut osc = MemoryOscillator::new(rt.alloc(), &script)?;
     let mut words = MemoryWords::new(rt.alloc(), &script)?;
     for number in [0, MAX_OSC, 7, 7, 7] {
-        assert_equal!(rt; osc.read(), number);
-        assert_equal!(rt; words.next(), number);
+        let given = (osc.read(), words.next());
+        assert_equal!(rt; given, (number, number));
     }
-    assert_equal!(rt; MemoryOscillator::new(rt.alloc(), &[])?.read(), 0);
-    assert_equal!(rt; MemoryWords::new(rt.alloc(), &[])?.next(), 0);
+    let mut osc = MemoryOscillator::new(rt.alloc(), &[])?;
+    let mut words = MemoryWords::new(rt.alloc(), &[])?;
+    assert_equal!(rt; (osc.read(), words.next()), (0, 0));
     assert_equal!(rt; MAX_OSC, 1_152_921_504_606_846_976);
     Ok(())
+}
+
+// What a poll answers, and what stands in its buffer of three octets then.
+fn polled(link: &mut MemoryLink) -> (Arrival, [u8; 3]) {
+    let mut buf = [0u8; 3];
+    let arrival = link.poll(&mut buf);
+    (arrival, buf)
 }
 
 #[test]
@@ -105,21 +112,19 @@ fn a_link_gives_its_script(rt: HostRuntime) -> Result<(), Fail> {
         Scripted::Ended,
     ]?;
     let mut link = MemoryLink::new(rt.alloc(), script, &[], &[])?;
-    let mut buf = [0u8; 3];
-    assert_equal!(rt; link.poll(&mut buf), Arrival::Bytes { peer: 1, len: 3 });
-    assert_equal!(rt; buf, *b"hel");
-    assert_equal!(rt; link.poll(&mut buf), Arrival::Bytes { peer: 1, len: 2 });
-    assert_equal!(rt; &buf[..2], b"lo".as_slice());
-    assert_equal!(rt; link.poll(&mut buf), Arrival::Nothing);
-    assert_equal!(rt; link.poll(&mut buf), Arrival::Gram { peer: 2, len: 3 });
-    assert_equal!(rt; buf, *b"dat");
-    assert_equal!(rt; link.poll(&mut buf), Arrival::Gram { peer: 2, len: 0 });
-    assert_equal!(rt; link.poll(&mut buf), Arrival::Lost { peer: 1 });
-    assert_equal!(rt; link.poll(&mut buf), Arrival::Ended);
-    assert_equal_at!(rt; "past its script",
-        link.poll(&mut buf),
-        Arrival::Nothing,
-    );
+    // what comes past the script is the last row
+    for (arrival, octets) in [
+        (Arrival::Bytes { peer: 1, len: 3 }, *b"hel"),
+        (Arrival::Bytes { peer: 1, len: 2 }, *b"lo\0"),
+        (Arrival::Nothing, [0; 3]),
+        (Arrival::Gram { peer: 2, len: 3 }, *b"dat"),
+        (Arrival::Gram { peer: 2, len: 0 }, [0; 3]),
+        (Arrival::Lost { peer: 1 }, [0; 3]),
+        (Arrival::Ended, [0; 3]),
+        (Arrival::Nothing, [0; 3]),
+    ] {
+        assert_equal!(rt; polled(&mut link), (arrival, octets));
+    }
     Ok(())
 }
 
@@ -127,14 +132,11 @@ fn a_link_gives_its_script(rt: HostRuntime) -> Result<(), Fail> {
 fn a_link_keeps_lists_and_fails_at_the_calls_of_its_lists(rt: HostRuntime) -> Result<(), Fail> {
     let mut link = MemoryLink::new(rt.alloc(), Vec::new(rt.alloc()), &[2], &[1])?;
     link.place(1, PeerKind::Gram, ADDRESS);
-    assert_equal!(rt; link.send(1, b"lost"), Err(Failed));
-    assert_equal!(rt; link.listen(1000, ADDRESS), Ok(()));
-    assert_equal_at!(rt; "each kind is numbered alone",
-        link.send(1, b"query"),
-        Ok(()),
-    );
-    assert_equal!(rt; link.listen(1001, ADDRESS), Err(Failed));
-    assert_equal!(rt; link.listen(1002, ADDRESS), Ok(()));
+    // the calls of each kind are numbered alone
+    let answers = [link.send(1, b"lost"), link.send(1, b"query")];
+    assert_equal!(rt; answers, [Err(Failed), Ok(())]);
+    let answers = [1000, 1001, 1002].map(|first| link.listen(first, ADDRESS));
+    assert_equal!(rt; answers, [Ok(()), Err(Failed), Ok(())]);
     link.close(1);
     let place = Place {
         peer: 1,
@@ -151,8 +153,7 @@ fn a_link_keeps_lists_and_fails_at_the_calls_of_its_lists(rt: HostRuntime) -> Re
         address: ADDRESS,
     };
     assert_equal!(rt; link.served(), [first, second].as_slice());
-    let bytes = Bytes::from_slice(rt.alloc(), b"query")?;
-    assert_equal!(rt; link.sent(), [Sent { peer: 1, bytes }].as_slice());
+    assert_equal!(rt; link.sent(), [sent(rt.alloc(), 1, b"query")?].as_slice());
     assert_equal!(rt; link.closed(), [1].as_slice());
     assert_equal!(rt; link.starved(), 0);
     Ok(())
@@ -212,80 +213,89 @@ fn an_address_is_read_from_its_text_alone(rt: HostRuntime) {
     }
 }
 
+// The fields in the order of their names below.
+const FIELDS: [Field; 49] = [
+    Field::RpcVers,
+    Field::RpcVersMinor,
+    Field::Ptype,
+    Field::PfcFlags,
+    Field::DrepOrder,
+    Field::DrepRest,
+    Field::FragLength,
+    Field::AuthLength,
+    Field::CallId,
+    Field::MaxXmit,
+    Field::MaxRecv,
+    Field::AssocGroup,
+    Field::NContext,
+    Field::Reserved,
+    Field::ContextId,
+    Field::NTransferSyn,
+    Field::AbstractUuid,
+    Field::Version,
+    Field::TransferUuid,
+    Field::SecLength,
+    Field::SecAddress,
+    Field::Padding,
+    Field::NResults,
+    Field::Result,
+    Field::Reason,
+    Field::NProtocols,
+    Field::Major,
+    Field::Minor,
+    Field::AllocHint,
+    Field::Opnum,
+    Field::ObjectUuid,
+    Field::Stub,
+    Field::CancelCount,
+    Field::Status,
+    Field::Epoch,
+    Field::WireVersion,
+    Field::UtcOctets,
+    Field::Role,
+    Field::Courier,
+    Field::Number,
+    Field::StepNumber,
+    Field::MaxCount,
+    Field::StringOffset,
+    Field::ActualCount,
+    Field::StringOctets,
+    Field::Tail,
+    Field::NtpLength,
+    Field::NtpVersion,
+    Field::Input,
+];
+
+const FIELD_NAMES: &str =
+    "rpc_vers rpc_vers_minor ptype pfc_flags drep_order drep_rest frag_length auth_length call_id max_xmit_frag
+max_recv_frag assoc_group_id n_context_elem reserved p_cont_id n_transfer_syn abstract_uuid version
+transfer_uuid sec_length sec_address padding n_results result reason n_protocols major minor alloc_hint opnum
+object_uuid stub cancel_count status epoch wire_version utc_octets role courier number step_number max_count
+string_offset actual_count string_octets tail ntp_length ntp_version input";
+
 #[test]
 fn fields_causes_and_states_have_names(rt: HostRuntime) -> Result<(), Fail> {
-    let fields = [
-        (Field::RpcVers, "rpc_vers"),
-        (Field::RpcVersMinor, "rpc_vers_minor"),
-        (Field::Ptype, "ptype"),
-        (Field::PfcFlags, "pfc_flags"),
-        (Field::DrepOrder, "drep_order"),
-        (Field::DrepRest, "drep_rest"),
-        (Field::FragLength, "frag_length"),
-        (Field::AuthLength, "auth_length"),
-        (Field::CallId, "call_id"),
-        (Field::MaxXmit, "max_xmit_frag"),
-        (Field::MaxRecv, "max_recv_frag"),
-        (Field::AssocGroup, "assoc_group_id"),
-        (Field::NContext, "n_context_elem"),
-        (Field::Reserved, "reserved"),
-        (Field::ContextId, "p_cont_id"),
-        (Field::NTransferSyn, "n_transfer_syn"),
-        (Field::AbstractUuid, "abstract_uuid"),
-        (Field::Version, "version"),
-        (Field::TransferUuid, "transfer_uuid"),
-        (Field::SecLength, "sec_length"),
-        (Field::SecAddress, "sec_address"),
-        (Field::Padding, "padding"),
-        (Field::NResults, "n_results"),
-        (Field::Result, "result"),
-        (Field::Reason, "reason"),
-        (Field::NProtocols, "n_protocols"),
-        (Field::Major, "major"),
-        (Field::Minor, "minor"),
-        (Field::AllocHint, "alloc_hint"),
-        (Field::Opnum, "opnum"),
-        (Field::ObjectUuid, "object_uuid"),
-        (Field::Stub, "stub"),
-        (Field::CancelCount, "cancel_count"),
-        (Field::Status, "status"),
-        (Field::Epoch, "epoch"),
-        (Field::WireVersion, "wire_version"),
-        (Field::UtcOctets, "utc_octets"),
-        (Field::Role, "role"),
-        (Field::Courier, "courier"),
-        (Field::Number, "number"),
-        (Field::StepNumber, "step_number"),
-        (Field::MaxCount, "max_count"),
-        (Field::StringOffset, "string_offset"),
-        (Field::ActualCount, "actual_count"),
-        (Field::StringOctets, "string_octets"),
-        (Field::Tail, "tail"),
-        (Field::NtpLength, "ntp_length"),
-        (Field::NtpVersion, "ntp_version"),
-        (Field::Input, "input"),
-    ];
-    for (field, name) in fields {
-        assert_equal!(rt; field.name(), name);
+    let mut names = FIELD_NAMES.split_whitespace();
+    for field in FIELDS {
+        assert_equal!(rt; Some(field.name()), names.next());
     }
-    let causes = [
+    assert_equal!(rt; names.next(), None);
+    for (cause, name) in [
         (WireCause::Short, "short"),
         (WireCause::Value, "value"),
         (WireCause::Extra, "extra"),
         (WireCause::Long, "long"),
-    ];
-    for (cause, name) in causes {
+    ] {
         assert_equal!(rt; cause.name(), name);
     }
-    let states = [
+    for (state, name) in [
         (State::New, "new"),
         (State::Binding, "binding"),
         (State::Bound, "bound"),
         (State::Waiting, "waiting"),
         (State::Gathering, "gathering"),
         (State::Dead, "dead"),
-    ];
-    for (state, name) in states {
+    ] {
         assert_equal!(rt; state.name(), name);
         assert_equal!(rt; state.to_string(rt.alloc())?.as_str(), name);
     }
@@ -294,9 +304,8 @@ fn fields_causes_and_states_have_names(rt: HostRuntime) -> Result<(), Fail> {
         offset: 4,
         cause: WireCause::Short,
     };
-    assert_equal!(rt; refused.to_string(rt.alloc())?.as_str(),
-        "status at octet 4: short",
-    );
+    let text = refused.to_string(rt.alloc())?;
+    assert_equal!(rt; text.as_str(), "status at octet 4: short");
     Ok(())
 }
 

@@ -1,6 +1,11 @@
-//! Tests of the roster and of a round's sources. They stand apart from the crates, which are so proved without them.
+//! Tests of the roster, of whom a round asks, of a node's own interval, and of what a server answers. They stand apart from
+//! the crates, which are so proved without them.
 #![tactic(auto)]
 
+#[cfg(test)]
+mod answers;
+#[cfg(test)]
+mod asked;
 #[cfg(test)]
 mod examples;
 #[cfg(test)]
@@ -9,6 +14,8 @@ mod forms;
 mod kinds;
 #[cfg(test)]
 mod order;
+#[cfg(test)]
+mod own;
 #[cfg(test)]
 mod ranges;
 #[cfg(test)]

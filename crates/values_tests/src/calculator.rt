@@ -1,9 +1,7 @@
 use assertions::{assert_at, assert_equal, assert_equal_at};
-use dts_base::{MemorySink, MemorySource};
+use dts_base::{MemorySink, MemorySource, NoMemory, Text};
 use line_filter::{LineFilter, Stop, Unfit};
 use std::alloc::Global;
-use std::io::Eprint;
-use std::process::Abort;
 use std::test::Fail;
 use utc_calculator::*;
 use utc_routines::{Order4, UtcFault};
@@ -18,74 +16,38 @@ fn at(column: u32, cause: UtcCause) -> UtcRefusal {
     UtcRefusal { column, cause }
 }
 
+// Lines and their answers.
+const ANSWERED: &str =
+    "add 1970-01-01-00:00:00.0I0.5 00-00:00:01.0I0.25 = 1970-01-01-00:00:01.0000000+00:00I0.7500000
+add 00-00:00:01 1970-01-01-01:00:00+01:00I0 = 1970-01-01-01:00:01.0000000+01:00I-----
+sub 1970-01-01-00:00:01I0.1 1970-01-01-00:00:03I0.2 = -00-00:00:02.0000000I0.3000000
+abs -00-00:00:05I2 = 00-00:00:05.0000000I2.0000000
+mul -00-00:00:05I2 -3 = 00-00:00:15.0000000I6.0000000
+mul 00-00:00:01Iinf -2147483648 = -24855-03:14:08.0000000I-----
+mul 00-00:00:01I0 2147483647 = 24855-03:14:07.0000000I0.0000000
+mul 00-00:00:01I0.5 0 = 00-00:00:00.0000000I0.0000000
+span 00-00:00:05I5 00-00:00:13I2 = 00-00:00:07.5000000I7.5000000
+bound 00-00:00:05I5 00-00:00:13I2 = 00-00:00:07.5000000I7.5000000
+tdf 1970-01-01-00:00:00I0 60 = 1970-01-01-01:00:00.0000000+01:00I0.0000000
+tdf 1970-01-01-00:00:00I0 -1439 = 1969-12-31-00:01:00.0000000-23:59I0.0000000
+interval 00-00:00:05I4 00-00:00:15I5 = lessThan
+interval 00-00:00:15I5 00-00:00:05I4 = greaterThan
+interval 00-00:00:05I0 00-00:00:05I0 = equalTo
+interval 00-00:00:05I5 00-00:00:15I5 = indeterminate
+mid 00-00:00:05 00-00:00:15 = lessThan
+mid 00-00:00:15 00-00:00:05 = greaterThan
+point 1970-01-01-00:00:00I1 = 1969-12-31-23:59:59.0000000+00:00I0.0000000 1970-01-01-00:00:00.0000000+00:00I0.0000000 1970-01-01-00:00:01.0000000+00:00I0.0000000
+bytes 1970-01-01-00:00:00I0 = 00408113d21db2010000000000000010
+text 00408113d21db2010000000000000010 = 1970-01-01-00:00:00.0000000+00:00I0.0000000
+text 00408113D21DB2010000000000000010 = 1970-01-01-00:00:00.0000000+00:00I0.0000000";
+
 #[test]
 fn each_operation_is_answered(rt: HostRuntime) -> Result<(), Fail> {
-    let cases: [(&str, &str); 22] = [
-        (
-            "add 1970-01-01-00:00:00.0I0.5 00-00:00:01.0I0.25",
-            "1970-01-01-00:00:01.0000000+00:00I0.7500000\n",
-        ),
-        (
-            "add 00-00:00:01 1970-01-01-01:00:00+01:00I0",
-            "1970-01-01-01:00:01.0000000+01:00I-----\n",
-        ),
-        (
-            "sub 1970-01-01-00:00:01I0.1 1970-01-01-00:00:03I0.2",
-            "-00-00:00:02.0000000I0.3000000\n",
-        ),
-        ("abs -00-00:00:05I2", "00-00:00:05.0000000I2.0000000\n"),
-        ("mul -00-00:00:05I2 -3", "00-00:00:15.0000000I6.0000000\n"),
-        (
-            "mul 00-00:00:01Iinf -2147483648",
-            "-24855-03:14:08.0000000I-----\n",
-        ),
-        (
-            "mul 00-00:00:01I0 2147483647",
-            "24855-03:14:07.0000000I0.0000000\n",
-        ),
-        ("mul 00-00:00:01I0.5 0", "00-00:00:00.0000000I0.0000000\n"),
-        (
-            "span 00-00:00:05I5 00-00:00:13I2",
-            "00-00:00:07.5000000I7.5000000\n",
-        ),
-        (
-            "bound 00-00:00:05I5 00-00:00:13I2",
-            "00-00:00:07.5000000I7.5000000\n",
-        ),
-        (
-            "tdf 1970-01-01-00:00:00I0 60",
-            "1970-01-01-01:00:00.0000000+01:00I0.0000000\n",
-        ),
-        (
-            "tdf 1970-01-01-00:00:00I0 -1439",
-            "1969-12-31-00:01:00.0000000-23:59I0.0000000\n",
-        ),
-        ("interval 00-00:00:05I4 00-00:00:15I5", "lessThan\n"),
-        ("interval 00-00:00:15I5 00-00:00:05I4", "greaterThan\n"),
-        ("interval 00-00:00:05I0 00-00:00:05I0", "equalTo\n"),
-        ("interval 00-00:00:05I5 00-00:00:15I5", "indeterminate\n"),
-        ("mid 00-00:00:05 00-00:00:15", "lessThan\n"),
-        ("mid 00-00:00:15 00-00:00:05", "greaterThan\n"),
-        (
-            "point 1970-01-01-00:00:00I1",
-            "1969-12-31-23:59:59.0000000+00:00I0.0000000 1970-01-01-00:00:00.0000000+00:00I0.0000000 1970-01-01-00:00:01.0000000+00:00I0.0000000\n",
-        ),
-        (
-            "bytes 1970-01-01-00:00:00I0",
-            "00408113d21db2010000000000000010\n",
-        ),
-        (
-            "text 00408113d21db2010000000000000010",
-            "1970-01-01-00:00:00.0000000+00:00I0.0000000\n",
-        ),
-        (
-            "text 00408113D21DB2010000000000000010",
-            "1970-01-01-00:00:00.0000000+00:00I0.0000000\n",
-        ),
-    ];
-    for (line, want) in cases {
+    for row in ANSWERED.lines() {
+        let (line, want) = row.split_once(" = ").expect(&rt, "a line and its answer");
         match answer(rt.alloc(), line.as_bytes()) {
-            Ok(octets) => assert_equal_at!(rt; line, octets.as_slice(), want.as_bytes()),
+            Ok(octets) =>
+                assert_equal_at!(rt; line, octets.as_slice().strip_suffix(b"\n"), Some(want.as_bytes())),
             Err(fault) => assert_at!(rt; (line, fault), false),
         }
     }
@@ -245,53 +207,41 @@ fn operations_are_read_and_computed(rt: HostRuntime) -> Result<(), Fail> {
     Ok(())
 }
 
-// What a calculation of these lines answers and writes.
-fn expect(
-    rt: &(impl Abort + Eprint),
+// How a calculation of these lines ends where these reads and writes fail, and what it has written.
+fn calculated(
     alloc: Global,
     lines: &[u8],
-    ends: Result<(), Stop<UtcRefusal>>,
-    want: &[u8],
-) -> Result<(), Fail> {
-    let mut input = MemorySource::new(alloc, lines, &[])?;
-    let mut output = MemorySink::new(alloc, &[])?;
-    assert_equal!(rt; calculate(alloc, &mut input, &mut output), ends);
-    assert_equal!(rt; output.written(), want);
-    Ok(())
+    reads: &[u64],
+    writes: &[u64],
+) -> Result<(Result<(), Stop<UtcRefusal>>, Text), NoMemory> {
+    let mut input = MemorySource::new(alloc, lines, reads)?;
+    let mut output = MemorySink::new(alloc, writes)?;
+    let ended = calculate(alloc, &mut input, &mut output);
+    Ok((ended, Text::from_slice(alloc, output.written())?))
 }
 
 #[test]
 fn lines_are_answered_up_to_the_first_that_is_refused(rt: HostRuntime) -> Result<(), Fail> {
     let stop = |line, cause| Err(Stop::Refused { line, cause });
-    expect(&rt, rt.alloc(), b"", Ok(()), b"")?;
-    expect(
-        &rt,
-        rt.alloc(),
-        b"mid 00-00:00:01 00-00:00:01",
-        Ok(()),
-        b"equalTo\n",
-    )?;
-    expect(
-        &rt,
-        rt.alloc(),
-        b"mid 00-00:00:01 00-00:00:01\n",
-        Ok(()),
-        b"equalTo\n",
-    )?;
-    expect(
-        &rt,
-        rt.alloc(),
-        b"mid 00-00:00:01 00-00:00:01\n\nmid 00-00:00:01 00-00:00:01\n",
-        stop(2, at(1, UtcCause::Word)),
-        b"equalTo\n",
-    )?;
-    expect(
-        &rt,
-        rt.alloc(),
-        b"mid 00-00:00:01 00-00:00:01\r\n",
-        stop(1, at(28, text(TextField::Tail, 11))),
-        b"",
-    )
+    for (lines, wanted, text) in [
+        ("", Ok(()), ""),
+        ("mid 00-00:00:01 00-00:00:01", Ok(()), "equalTo\n"),
+        ("mid 00-00:00:01 00-00:00:01\n", Ok(()), "equalTo\n"),
+        (
+            "mid 00-00:00:01 00-00:00:01\n\nmid 00-00:00:01 00-00:00:01\n",
+            stop(2, at(1, UtcCause::Word)),
+            "equalTo\n",
+        ),
+        (
+            "mid 00-00:00:01 00-00:00:01\r\n",
+            stop(1, at(28, text(TextField::Tail, 11))),
+            "",
+        ),
+    ] {
+        let (ended, written) = calculated(rt.alloc(), lines.as_bytes(), &[], &[])?;
+        assert_equal_at!(rt; lines, (ended, written.as_slice()), (wanted, text.as_bytes()));
+    }
+    Ok(())
 }
 
 #[test]
@@ -310,13 +260,11 @@ fn a_line_has_at_most_16384_octets(rt: HostRuntime) -> Result<(), Fail> {
         if feed {
             lines.push(b'\n')?;
         }
-        expect(
-            &rt,
-            rt.alloc(),
-            lines.as_slice(),
-            Err(Stop::Refused { line: 2, cause }),
-            b"equalTo\n",
-        )?;
+        let (ended, written) = calculated(rt.alloc(), lines.as_slice(), &[], &[])?;
+        assert_equal_at!(rt; length,
+            (ended, written.as_slice()),
+            (Err(Stop::Refused { line: 2, cause }), b"equalTo\n".as_slice()),
+        );
     }
     Ok(())
 }
@@ -340,11 +288,8 @@ fn faults_are_told_and_what_was_written_stands(rt: HostRuntime) -> Result<(), Fa
         (9, 3, Err(Stop::Write), "equalTo\nlessThan\n"),
         (9, 4, Ok(()), all),
     ] {
-        let mut input = MemorySource::new(rt.alloc(), lines, &[read])?;
-        let mut output = MemorySink::new(rt.alloc(), &[write])?;
-        let got = calculate(rt.alloc(), &mut input, &mut output);
-        assert_equal_at!(rt; (read, write), got, result);
-        assert_equal_at!(rt; (read, write), output.written(), want.as_bytes());
+        let (ended, written) = calculated(rt.alloc(), lines, &[read], &[write])?;
+        assert_equal_at!(rt; (read, write), (ended, written.as_slice()), (result, want.as_bytes()));
     }
     Ok(())
 }
@@ -418,31 +363,45 @@ fn causes_have_their_texts(rt: HostRuntime) -> Result<(), Fail> {
     Ok(())
 }
 
+// What should stand at each field, in the order of the fields.
+const RIGHT: &str = "`-` or days
+days of 1 to 8 digits, 10675199 at most,
+a year from 1582 to 9999
+`-` and a month from 01 to 12
+`-` and a day of the month, as 01,
+`-` and an hour from 00 to 23
+`:` and a minute from 00 to 59
+`:` and a second from 00 to 59
+`.` and at most 7 digits
+`+` or `-` and hours from 00 to 23
+`:` and minutes from 00 to 59
+`I` and `-----`, `inf` or at most 28147497.6710654 seconds
+the end of the time";
+
 #[test]
 fn each_field_of_a_time_has_its_text(rt: HostRuntime) -> Result<(), Fail> {
-    let cases: [(TextField, &str); 13] = [
-        (TextField::Sign, "`-` or days"),
-        (TextField::Days, "days of 1 to 8 digits, 10675199 at most,"),
-        (TextField::Year, "a year from 1582 to 9999"),
-        (TextField::Month, "`-` and a month from 01 to 12"),
-        (TextField::Day, "`-` and a day of the month, as 01,"),
-        (TextField::Hour, "`-` and an hour from 00 to 23"),
-        (TextField::Minute, "`:` and a minute from 00 to 59"),
-        (TextField::Second, "`:` and a second from 00 to 59"),
-        (TextField::Fraction, "`.` and at most 7 digits"),
-        (TextField::TdfHour, "`+` or `-` and hours from 00 to 23"),
-        (TextField::TdfMinute, "`:` and minutes from 00 to 59"),
-        (
-            TextField::Inaccuracy,
-            "`I` and `-----`, `inf` or at most 28147497.6710654 seconds",
-        ),
-        (TextField::Tail, "the end of the time"),
-    ];
-    for (field, right) in cases {
+    let mut rights = RIGHT.lines();
+    for field in [
+        TextField::Sign,
+        TextField::Days,
+        TextField::Year,
+        TextField::Month,
+        TextField::Day,
+        TextField::Hour,
+        TextField::Minute,
+        TextField::Second,
+        TextField::Fraction,
+        TextField::TdfHour,
+        TextField::TdfMinute,
+        TextField::Inaccuracy,
+        TextField::Tail,
+    ] {
+        let right = rights.next().unwrap_or("");
         let want = format!(in rt.alloc(); "no time is written so; {right} should stand here. ")?;
         let got = text(field, 0).to_string(rt.alloc())?;
-        assert!(rt; got.as_str().starts_with(want.as_str()), "{right}");
+        assert_at!(rt; right, got.as_str().starts_with(want.as_str()));
     }
+    assert_equal!(rt; rights.next(), None);
     Ok(())
 }
 

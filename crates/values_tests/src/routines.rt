@@ -1,4 +1,4 @@
-use assertions::assert_at;
+use assertions::{assert_at, assert_equal};
 use std::process::Abort;
 use utc_routines::*;
 use utc_value::{MAX_INACCURACY, Utc};
@@ -55,30 +55,43 @@ fn times_at_the_ends_of_their_type(rt: HostRuntime) {
     let last = length(rt, i64::MAX, Some(0));
     let first = length(rt, i64::MIN, Some(0));
     let one = length(rt, 1, Some(0));
-    assert!(rt; add(last, one) == Err(UtcFault::Overflow));
-    assert!(rt; add(first, length(rt, -1, Some(0))) == Err(UtcFault::Overflow));
-    assert!(rt; add(first, last) == Ok(length(rt, -1, Some(0))));
-    assert!(rt; sub(first, one) == Err(UtcFault::Overflow));
-    assert!(rt; sub(length(rt, -1, Some(0)), first) == Ok(last));
-    assert!(rt; sub(length(rt, 0, Some(0)), first) == Err(UtcFault::Overflow));
-    assert!(rt; abs(first) == Err(UtcFault::Overflow));
-    assert!(rt; abs(length(rt, -i64::MAX, Some(4))) == Ok(length(rt, i64::MAX, Some(4))));
-    assert!(rt; mul(first, -1) == Err(UtcFault::Overflow));
-    assert!(rt; mul(first, i32::MIN) == Err(UtcFault::Overflow));
-    assert!(rt; mul(first, 1) == Ok(first));
-    assert!(rt; cmp_interval(first, last) == Ok(Order4::LessThan));
-    assert!(rt; cmp_mid(last, first) == Ok(Order4::GreaterThan));
-    assert!(rt; point(length(rt, i64::MAX, Some(1))) == Err(UtcFault::Overflow));
-    assert!(rt; point(length(rt, i64::MIN, Some(1))) == Err(UtcFault::Overflow));
-    assert!(rt; point(last) == Ok((last, last, last)));
-    assert!(rt; span(first, first) == Ok(first));
-    assert!(rt; span(length(rt, i64::MIN, None), last) == Ok(length(rt, -1, None)));
-    assert!(rt; bound(last, last) == Ok(last));
     let late = length(rt, i64::MAX, Some(2));
-    assert!(rt; bound(last, late) == Err(UtcFault::Overflow));
     let early = length(rt, i64::MIN, Some(1));
-    assert!(rt; bound(early, first) == Err(UtcFault::Overflow));
-    assert!(rt; with_tdf(moment(rt, i64::MIN, None), 1439) == Ok(shown(rt, i64::MIN, None, 1439)));
+    let overflowing = [
+        add(last, one),
+        add(first, length(rt, -1, Some(0))),
+        sub(first, one),
+        sub(length(rt, 0, Some(0)), first),
+        abs(first),
+        mul(first, -1),
+        mul(first, i32::MIN),
+        bound(last, late),
+        bound(early, first),
+    ];
+    assert_equal!(rt; overflowing, [Err(UtcFault::Overflow); 9]);
+    for (got, wanted) in [
+        (add(first, last), length(rt, -1, Some(0))),
+        (sub(length(rt, -1, Some(0)), first), last),
+        (
+            abs(length(rt, -i64::MAX, Some(4))),
+            length(rt, i64::MAX, Some(4)),
+        ),
+        (mul(first, 1), first),
+        (span(first, first), first),
+        (span(length(rt, i64::MIN, None), last), length(rt, -1, None)),
+        (bound(last, last), last),
+        (
+            with_tdf(moment(rt, i64::MIN, None), 1439),
+            shown(rt, i64::MIN, None, 1439),
+        ),
+    ] {
+        assert_equal!(rt; got, Ok(wanted));
+    }
+    assert_equal!(rt; cmp_interval(first, last), Ok(Order4::LessThan));
+    assert_equal!(rt; cmp_mid(last, first), Ok(Order4::GreaterThan));
+    let overflowing = [i64::MAX, i64::MIN].map(|time| point(length(rt, time, Some(1))));
+    assert_equal!(rt; overflowing, [Err(UtcFault::Overflow); 2]);
+    assert_equal!(rt; point(last), Ok((last, last, last)));
 }
 
 #[test]
@@ -86,18 +99,32 @@ fn inaccuracies_at_their_limit(rt: HostRuntime) {
     let rt = &rt;
     let half = length(rt, 0, Some(HALF));
     let more = length(rt, 0, Some(HALF + 1));
-    assert!(rt; add(half, half) == Ok(length(rt, 0, Some(MAX_INACCURACY))));
-    assert!(rt; add(half, more) == Ok(length(rt, 0, None)));
-    assert!(rt; sub(half, half) == Ok(length(rt, 0, Some(MAX_INACCURACY))));
-    assert!(rt; sub(more, half) == Ok(length(rt, 0, None)));
-    assert!(rt; mul(half, -2) == Ok(length(rt, 0, Some(MAX_INACCURACY))));
-    assert!(rt; mul(more, 2) == Ok(length(rt, 0, None)));
     let widest = length(rt, 0, Some(MAX_INACCURACY));
-    assert!(rt; mul(widest, i32::MIN) == Ok(length(rt, 0, None)));
-    assert!(rt; span(widest, length(rt, 1, Some(MAX_INACCURACY - 1))) == Ok(widest));
-    assert!(rt; span(widest, length(rt, 1, Some(MAX_INACCURACY))) == Ok(length(rt, 0, None)));
-    assert!(rt; bound(widest, length(rt, 0, Some(MAX_INACCURACY))) == Ok(widest));
-    assert!(rt; bound(widest, length(rt, 1, Some(MAX_INACCURACY))) == Ok(length(rt, 0, None)));
+    let unspecified = length(rt, 0, None);
+    for (got, wanted) in [
+        (add(half, half), widest),
+        (add(half, more), unspecified),
+        (sub(half, half), widest),
+        (sub(more, half), unspecified),
+        (mul(half, -2), widest),
+        (mul(more, 2), unspecified),
+        (mul(widest, i32::MIN), unspecified),
+        (
+            span(widest, length(rt, 1, Some(MAX_INACCURACY - 1))),
+            widest,
+        ),
+        (
+            span(widest, length(rt, 1, Some(MAX_INACCURACY))),
+            unspecified,
+        ),
+        (bound(widest, widest), widest),
+        (
+            bound(widest, length(rt, 1, Some(MAX_INACCURACY))),
+            unspecified,
+        ),
+    ] {
+        assert_equal!(rt; got, Ok(wanted));
+    }
 }
 
 #[test]

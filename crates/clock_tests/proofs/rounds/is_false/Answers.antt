@@ -1,5 +1,5 @@
 use Rattle.std.proofs.Common.{ap, sym, ◌∙◌, Some}
-use Rattle.clerk_tests.proofs.rounds.is_false.Goals as goal
+use Rattle.clock_tests.proofs.rounds.is_false.Goals as goal
 
 pub false_at-requires-clause-answered : goal.false_at-requires-clause-answered
 false_at-requires-clause-answered c = (

@@ -1,11 +1,8 @@
-ghost use Rattle.std.specs.Prelude.{◌≤◌};
-
-use crate::filter::filter_behind;
-use crate::*;
-use dts_base::{Failed, MemorySink, MemorySource, Sink};
-use line_reader::{LineReader, MAX_LINE, MAX_LINES};
+use assertions::{assert_equal, assert_equal_at};
+use dts_base::{Failed, MemorySink, MemorySource, NoMemory, Sink, Text};
+use line_filter::*;
+use line_reader::MAX_LINE;
 use std::alloc::Global;
-use std::process::Abort;
 use std::test::Fail;
 use thiserror::Error;
 
@@ -29,7 +26,7 @@ struct Copies {
 
 impl LineFilter for Copies {
     ghost use Rattle.std.specs.Prelude.{◌≡◌, ◌≢◌, Bool, true, false, [], ◌∷◌, ◌++◌, length, ◌==◌, if◌then◌else◌, codes};
-    ghost use Rattle.line_filter.specs.declared.tests.Wrong.TheVariants.{Word, Nothing, Many, Long};
+    ghost use Rattle.outside_tests.specs.declared.filters.Wrong.TheVariants.{Word, Nothing, Many, Long};
 
     type Cause = Wrong;
 
@@ -101,48 +98,44 @@ impl Sink for Counter {
     }
 }
 
-// Filters the octets, where these reads and writes fail, and expects this answer and this text.
-fn expect_filtered(
-    rt: &impl Abort,
+// How the filter ends over the octets, where these reads and writes fail, and what was written.
+fn filtered(
     alloc: Global,
     octets: &[u8],
-    fails: (&[u64], &[u64]),
-    expected: Result<(), Stop<Wrong>>,
-    text: &[u8],
-) -> Result<(), Fail> {
-    let mut input = MemorySource::new(alloc, octets, fails.0)?;
-    let mut output = MemorySink::new(alloc, fails.1)?;
+    reads: &[u64],
+    writes: &[u64],
+) -> Result<(Result<(), Stop<Wrong>>, Text), NoMemory> {
+    let mut input = MemorySource::new(alloc, octets, reads)?;
+    let mut output = MemorySink::new(alloc, writes)?;
     let mut filter = Copies { any: false };
-    let answer = filter_lines(alloc, &mut filter, &mut input, &mut output);
-    assert_eq!(rt; answer, expected);
-    assert_eq!(rt; output.written(), text);
-    Ok(())
+    let ended = filter_lines(alloc, &mut filter, &mut input, &mut output);
+    Ok((ended, Text::from_slice(alloc, output.written())?))
 }
 
 #[test]
 fn lines_are_filtered_to_the_end_or_to_a_refused_one(rt: HostRuntime) -> Result<(), Fail> {
     let refused = |line, cause| Err(Stop::Refused { line, cause });
-    let none: &[u64] = &[];
-    let first: &[u64] = &[1];
-    let second: &[u64] = &[2];
-    let rows: [(&[u8], (&[u64], &[u64]), Result<(), Stop<Wrong>>, &[u8]); 9] = [
-        (b"one\n\ntwo\n", (none, none), Ok(()), b"one\ntwo\n"),
-        (b"one\ntwo", (none, none), Ok(()), b"one\ntwo\n"),
-        (b"\n", (none, none), Ok(()), b""),
-        (b"", (none, none), refused(1, Wrong::Nothing), b""),
+    // no call fails where its number is 0
+    for (octets, read, write, wanted, text) in [
         (
-            b"one\nno\nno\n",
-            (none, none),
-            refused(2, Wrong::Word),
-            b"one\n",
+            b"one\n\ntwo\n".as_slice(),
+            0,
+            0,
+            Ok(()),
+            b"one\ntwo\n".as_slice(),
         ),
-        (b"one\ntwo", (first, none), Err(Stop::Read), b""),
-        (b"one\ntwo", (second, none), Err(Stop::Read), b"one\n"),
-        (b"one\ntwo", (none, second), Err(Stop::Write), b"one\n"),
-        (b"one\nno", (none, first), Err(Stop::Write), b""),
-    ];
-    for (octets, fails, expected, text) in rows {
-        expect_filtered(&rt, rt.alloc(), octets, fails, expected, text)?;
+        (b"one\ntwo", 0, 0, Ok(()), b"one\ntwo\n"),
+        (b"\n", 0, 0, Ok(()), b""),
+        (b"", 0, 0, refused(1, Wrong::Nothing), b""),
+        (b"one\nno\nno\n", 0, 0, refused(2, Wrong::Word), b"one\n"),
+        (b"one\ntwo", 1, 0, Err(Stop::Read), b""),
+        (b"one\ntwo", 2, 0, Err(Stop::Read), b"one\n"),
+        (b"one\ntwo", 0, 2, Err(Stop::Write), b"one\n"),
+        (b"one\nno", 0, 1, Err(Stop::Write), b""),
+    ] {
+        let (ended, written) = filtered(rt.alloc(), octets, &[read], &[write])?;
+        assert_equal_at!(rt; octets, ended, wanted);
+        assert_equal_at!(rt; octets, written.as_slice(), text);
     }
     Ok(())
 }
@@ -152,76 +145,28 @@ fn a_text_is_one_piece_and_an_empty_one_is_none(rt: HostRuntime) -> Result<(), F
     let mut input = MemorySource::new(rt.alloc(), b"one\n\n\ntwo\n", &[])?;
     let mut output = Counter { calls: 0 };
     let mut filter = Copies { any: false };
-    assert_eq!(rt;
-        filter_lines(rt.alloc(), &mut filter, &mut input, &mut output),
-        Ok(())
-    );
-    assert_eq!(rt; output.calls, 2);
+    let ended = filter_lines(rt.alloc(), &mut filter, &mut input, &mut output);
+    assert_equal!(rt; ended, Ok(()));
+    assert_equal!(rt; output.calls, 2);
     Ok(())
-}
-
-// Filters the octets behind so many lines, and expects this answer and this text.
-fn expect_behind(
-    rt: &impl Abort,
-    alloc: Global,
-    before: u64,
-    octets: &[u8],
-    expected: Result<(), Stop<Wrong>>,
-    text: &[u8],
-) -> Result<(), Fail>
-    requires { before ≤ MAX_LINES }
-{
-    let mut input = MemorySource::new(alloc, octets, &[])?;
-    let mut output = MemorySink::new(alloc, &[])?;
-    let mut filter = Copies { any: false };
-    let mut reader = LineReader::new(alloc)?;
-    let answer = filter_behind(
-        alloc,
-        &mut filter,
-        before,
-        &mut reader,
-        &mut input,
-        &mut output,
-    );
-    assert_eq!(rt; answer, expected);
-    assert_eq!(rt; output.written(), text);
-    Ok(())
-}
-
-#[test]
-fn an_input_has_up_to_4294967295_lines(rt: HostRuntime) -> Result<(), Fail> {
-    let many = Err(Stop::Refused {
-        line: 4_294_967_296,
-        cause: Wrong::Many,
-    });
-    expect_behind(&rt, rt.alloc(), MAX_LINES - 2, b"x\ny\n", Ok(()), b"x\ny\n")?;
-    expect_behind(&rt, rt.alloc(), MAX_LINES - 1, b"x", Ok(()), b"x\n")?;
-    expect_behind(&rt, rt.alloc(), MAX_LINES - 1, b"x\ny\n", many, b"x\n")?;
-    expect_behind(&rt, rt.alloc(), MAX_LINES - 1, b"x\nno\n", many, b"x\n")?;
-    expect_behind(&rt, rt.alloc(), MAX_LINES, b"x", many, b"")?;
-    // of a line that is both too many and too long it is told that it is too many
-    let longer = vec![in rt.alloc(); b'x'; MAX_LINE + 1]?;
-    expect_behind(&rt, rt.alloc(), MAX_LINES, longer.as_slice(), many, b"")
 }
 
 #[test]
 fn a_line_has_up_to_16384_octets(rt: HostRuntime) -> Result<(), Fail> {
     let mut octets = vec![in rt.alloc(); b'x'; MAX_LINE]?;
     octets.push(b'\n')?;
-    expect_filtered(
-        &rt,
-        rt.alloc(),
-        octets.as_slice(),
-        (&[], &[]),
-        Ok(()),
-        octets.as_slice(),
-    )?;
+    let (ended, written) = filtered(rt.alloc(), octets.as_slice(), &[], &[])?;
+    assert_equal!(rt; ended, Ok(()));
+    assert_equal!(rt; written.as_slice(), octets.as_slice());
     let longer = vec![in rt.alloc(); b'x'; MAX_LINE + 1]?;
-    let long = Err(Stop::Refused {
+    let (ended, written) = filtered(rt.alloc(), longer.as_slice(), &[], &[])?;
+    let long = Stop::Refused {
         line: 1,
         cause: Wrong::Long,
-    });
-    expect_filtered(&rt, rt.alloc(), longer.as_slice(), (&[], &[]), long, b"")
+    };
+    assert_equal!(rt; ended, Err(long));
+    assert_equal!(rt; written.as_slice(), b"".as_slice());
+    Ok(())
 }
 
 #[test]
@@ -238,7 +183,7 @@ fn stops_have_texts(rt: HostRuntime) -> Result<(), Fail> {
     ];
     for (stop, expected) in rows {
         let text = format!(in rt.alloc(); "{stop}")?;
-        assert_eq!(rt; text.as_str(), expected);
+        assert_equal!(rt; text.as_str(), expected);
     }
     let rows = [
         (Unfit::Refused(Wrong::Nothing), "no line"),
@@ -246,7 +191,7 @@ fn stops_have_texts(rt: HostRuntime) -> Result<(), Fail> {
     ];
     for (fault, expected) in rows {
         let text = format!(in rt.alloc(); "{fault}")?;
-        assert_eq!(rt; text.as_str(), expected);
+        assert_equal!(rt; text.as_str(), expected);
     }
     one_way_to_end::<Copies>();
     valid_input_is_not_refused::<Copies>();
