@@ -9,7 +9,7 @@ use std::io::Eprint;
 use std::process::Abort;
 use uuid::Uuid;
 
-mod examples;
+pub mod examples;
 mod plain;
 
 use examples::{BIG, LITTLE};

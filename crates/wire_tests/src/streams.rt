@@ -1,5 +1,6 @@
 ghost use Rattle.std.specs.Prelude.{◌<◌};
 
+use crate::pdus::examples::BIG;
 use assertions::{assert_at, assert_equal};
 use dts_base::{Field, Refused, WireCause};
 use ndr::DecodeFault;
@@ -13,32 +14,6 @@ use std::process::Abort;
 // A bind of call 1, the lowest octet first.
 const BIND: &str =
     "05000b03100000004800000001000000d016d016000000000100000000000100105a0e6a523c7e4b9d215e8f7c1a2b3001000000045d888aeb1cc9119fe808002b10486002000000";
-
-// A PDU of each kind, the highest octet first.
-static EXAMPLES: [&str; 11] = [
-    // a request
-    "05000003000000000019000000000002000000010000000000",
-    // a response
-    "0500020300000000001b0000000000020000000300010200010203",
-    // a fault
-    "0500032300000000002000000000000700000000000102001c01000200000000",
-    // a bind
-    "05000b0300000000004800000000000116d016d00000000001000000000001006a0e5a103c524b7e9d215e8f7c1a2b30000000018a885d041ceb11c99fe808002b10486000000002",
-    // a bind_ack
-    "05000c0300000000003800000000000116d016d0000000010000000001000000000000008a885d041ceb11c99fe808002b10486000000002",
-    // a bind_nak
-    "05000d0300000000001700000000000100040205000501",
-    // an alter_context
-    "05000e0300000000008800000000000116d005980a0b0c0d02000000000002006a0e5a103c524b7e9d215e8f7c1a2b30000000018a885d041ceb11c99fe808002b104860000000028a885d041ceb11c99fe808002b10486000000001000101006a0e5a103c524b7e9d215e8f7c1a2b30000000018a885d041ceb11c99fe808002b10486000000002",
-    // an alter_context_resp
-    "05000f0300000000005400000000000116d016d00a0b0c0d000331320000000002000000000200038a885d041ceb11c99fe808002b10486000000002000000008a885d041ceb11c99fe808002b10486000000002",
-    // a shutdown
-    "05001103000000000010000000000000",
-    // a co_cancel
-    "05001203000000000010000000000002",
-    // an orphaned
-    "05011303000000000010000000000002",
-];
 
 fn octets_of(rt: &impl Abort, alloc: Global, text: &str) -> Vec<u8> {
     hex::decode(alloc, text).expect(rt, "hex digits")
@@ -187,7 +162,7 @@ fn append_at(
     stream: &mut Vec<u8>,
     alone: &mut Vec<u8>,
 ) {
-    let mut octets = octets_of(rt, alloc, EXAMPLES[place % EXAMPLES.len()]);
+    let mut octets = octets_of(rt, alloc, BIG[place % BIG.len()]);
     if place < broken {
         let pdu = decode(alloc, octets.as_slice()).expect(rt, "octets that are decoded");
         append(rt, alloc, &pdu, alone);
