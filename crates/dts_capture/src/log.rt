@@ -73,6 +73,22 @@ fn three_numbers<I: Integer, J: Integer, K: Integer>(
     Ok(line)
 }
 
+// A word and four numbers.
+fn four_numbers<I: Integer, J: Integer, K: Integer, L: Integer>(
+    alloc: Global,
+    word: &str,
+    first: I,
+    second: J,
+    third: K,
+    fourth: L,
+) -> Result<LineWriter, NoMemory>
+    ensures { IfOk result (λ line. Begins line word.now (I.text first ∷ J.text second ∷ K.text third ∷ L.text fourth ∷ [])) }
+{
+    let mut line = three_numbers(alloc, word, first, second, third)?;
+    line.number(fourth)?;
+    Ok(line)
+}
+
 // What was sent.
 fn sent(alloc: Global, osc: u64, peer: u32, bytes: &[u8]) -> Result<LineWriter, NoMemory>
     ensures { IfOk result (λ line. Begins line (codes "send") (decimal osc ∷ decimal peer ∷ hex_or_dash bytes.now ∷ [])) }
@@ -134,9 +150,11 @@ fn note_line(alloc: Global, note: &Note) -> Result<LineWriter, NoMemory>
         NoteKind::Round { number, sources } => {
             three_numbers(alloc, "round", osc, *number, *sources)
         }
-        NoteKind::Adopted { n, lo, hi } => adopted(alloc, osc, *n, *lo, *hi),
+        NoteKind::Adopted { n, lo, hi } => four_numbers(alloc, "adopted", osc, *n, *lo, *hi),
         NoteKind::False(source) => false_source(alloc, osc, *source),
-        NoteKind::Step { step, old, new } => step_line(alloc, osc, *step, *old, *new),
+        NoteKind::Step { step, old, new } => {
+            four_numbers(alloc, "step", osc, *step, *old, *new)
+        }
         NoteKind::Short { answered, required } => {
             three_numbers(alloc, "short", osc, *answered, *required)
         }
@@ -162,33 +180,24 @@ fn reading(
     Ok(line)
 }
 
-fn adopted(alloc: Global, osc: u64, n: u32, lo: i64, hi: i64) -> Result<LineWriter, NoMemory>
-    ensures { IfOk result (λ line. Begins line (codes "adopted") (decimal osc ∷ decimal n ∷ signed_decimal lo ∷ signed_decimal hi ∷ [])) }
-{
-    let mut line = three_numbers(alloc, "adopted", osc, n, lo)?;
-    line.number(hi)?;
-    Ok(line)
-}
-
-fn step_line(alloc: Global, osc: u64, step: u64, old: i64, new: i64) -> Result<LineWriter, NoMemory>
-    ensures { IfOk result (λ line. Begins line (codes "step") (decimal osc ∷ decimal step ∷ signed_decimal old ∷ signed_decimal new ∷ [])) }
-{
-    let mut line = three_numbers(alloc, "step", osc, step, old)?;
-    line.number(new)?;
-    Ok(line)
-}
-
 fn false_source(alloc: Global, osc: u64, source: FalseSource) -> Result<LineWriter, NoMemory>
     ensures { IfOk result (λ line. Begins line (codes "false") (decimal osc ∷ source_field source ∷ [])) }
 {
     let mut line = LineWriter::new(alloc, "false")?;
     line.number(osc)?;
-    match source {
-        FalseSource::Peer(n) => line.number(n)?,
-        FalseSource::Tag(n) => line.number(n)?,
-        FalseSource::Own => line.word("own")?,
-    }
+    which(&mut line, source)?;
     Ok(line)
+}
+
+// Which source is false.
+fn which(line: &mut LineWriter, source: FalseSource) -> Result<(), NoMemory>
+    ensures { OnOk result (Adds line.old line.new (source_field source ∷ [])) }
+{
+    match source {
+        FalseSource::Peer(n) => line.number(n),
+        FalseSource::Tag(n) => line.number(n),
+        FalseSource::Own => line.word("own"),
+    }
 }
 
 // A note without a line of its own.
@@ -245,8 +254,7 @@ fn refused(line: &mut LineWriter, refused: Refused) -> Result<(), NoMemory>
     ensures { OnOk result (Adds line.old line.new (note_words (NoteKind.Refused refused))) }
 {
     line.word("refused")?;
-    line.word(refused.field.name())?;
-    line.number(refused.offset)?;
+    named(line, refused.field.name(), refused.offset)?;
     line.word(refused.cause.name())
 }
 
