@@ -1,12 +1,11 @@
 -- What words mean: a command, a request for the help or the version, or nothing.
-use Rattle.std.specs.Prelude.{◌≡◌, ◌≤◌, ◌&&◌, ◌||◌, ◌==◌, ℕ, Bool, true, false, not, List, [], ◌∷◌, Option, Some, None, Result, Ok, Err}
+use Rattle.std.specs.Prelude.{◌&&◌, ◌||◌, ◌==◌, ℕ, Bool, true, false, not, List, [], ◌∷◌, Option, Some, None}
 use Rattle.std.specs.Prelude.{codes, length, slice_index, bytes_eq, nat_lt, nat_le, option_map, option_and_then, if◌then◌else◌}
 use Rattle.std.specs.List.{join_by}
 use Rattle.std.specs.Option.{option_map_or}
 use Rattle.std.specs.Str.{all_ascii_digits}
 use Rattle.std.specs.Str.Parse.{digits_value}
 use Rattle.clap.specs.Words.{Kinds, Row, Text, all_of, fault_of, first_of, subcommand_of}
-use Rattle.clap.specs.declared.Error.{Error}
 use Rattle.clap.specs.declared.error.ErrorKind.{ErrorKind}
 use Rattle.clap.specs.declared.error.ErrorKind.TheVariants as kind
 use Rattle.command_words.specs.declared.command_line.CommandLine.{CommandLine}
@@ -14,8 +13,6 @@ use Rattle.command_words.specs.declared.command_line.CommandLine.TheVariants as 
 use Rattle.command_words.specs.declared.command_line.HalfOptions.{HalfOptions}
 use Rattle.command_words.specs.declared.command_line.ShowKind.{ShowKind}
 use Rattle.command_words.specs.declared.command_line.ShowKind.TheVariants as shown
-use Rattle.command_words.specs.declared.command_line.NoCommand.{NoCommand}
-use Rattle.command_words.specs.declared.command_line.NoCommand.TheVariants as no
 use Rattle.command_words.specs.declared.syntax.TheConstants.{LATEST_START, MOST_EVENTS, MOST_INACCURACY, MOST_SEED, MOST_TURNS, MOST_WORKERS}
 use Rattle.command_words.specs.Syntax.{dts}
 
@@ -101,24 +98,3 @@ meaning_by (k ∷ kinds) found = if is_request_kind k then asks else nothing
 
 unfoldable pub meaning_of : List Text → Meaning
 meaning_of words = meaning_by (fault_of dts words) (subcommand_of dts words)
-
--- the numbers that a command needs in their ranges are there
-abbrev pub IsInRange : CommandLine → Type 0
-IsInRange (command.Drill seed events) = events ≤ MOST_EVENTS
-IsInRange _ = Unit {0}
-
--- the words were read so
-abbrev pub IsReading : Meaning → Result CommandLine NoCommand → Type 0
-IsReading meaning (Ok line) = meaning ≡ means line
-IsReading meaning (Err (no.Shown text)) = meaning ≡ asks
-IsReading meaning (Err (no.Refused why)) = meaning ≡ nothing
-IsReading meaning (Err no.Number) = meaning ≡ nothing
-IsReading meaning (Err no.Kind) = meaning ≡ nothing
-IsReading meaning (Err no.NoMemory) = Unit {0}
-
--- what clap's error makes of the words
-abbrev pub refusal_of : ErrorKind → Error → NoCommand
-refusal_of kind.OutOfMemory error = no.NoMemory
-refusal_of kind.DisplayHelp error = no.Shown error
-refusal_of kind.DisplayVersion error = no.Shown error
-refusal_of other error = no.Refused error

@@ -1,9 +1,11 @@
-ghost use Rattle.std.specs.Prelude.{◌≡◌, ◌≤◌, ◌^◌, ◌-◌, Err, IfOk, IfSome, bytes_eq, codes, false, map, option_and_then, option_map};
+ghost use Rattle.std.specs.Prelude.{◌≡◌, ◌≤◌, ◌^◌, ◌-◌, IfOk, IfSome, bytes_eq, codes, false, map, option_map};
 ghost use Rattle.std.specs.List.{join_by};
 ghost use Rattle.std.specs.Option.{option_map_or};
 ghost use Rattle.std.specs.String.{string_bytes};
 ghost use Rattle.clap.specs.Words.{all_of, first_of, found_of, kind_of, rows_of, subcommand_rows_of};
-ghost use Rattle.command_words.specs.Words.{IsInRange, IsReading, clerk_in, command_in, control_in, drill_in, half_in, kind_in, meaning_of, nothing, number_at, number_if_given, number_in, refusal_of, server_in, show_in};
+ghost use Rattle.command_words.specs.Words.{clerk_in, command_in, control_in, drill_in, half_in, kind_in, number_at, number_if_given, number_in, server_in, show_in};
+ghost use Rattle.command_words.specs.Reading.{IsInRange, IsReading, greatest_of, id_of};
+ghost use Rattle.command_words.specs.Finding.{Finds, FindsCommand, FindsIfRoom, refusal_of};
 
 use crate::syntax::{
     LATEST_START, MOST_EVENTS, MOST_INACCURACY, MOST_SEED, MOST_TURNS, MOST_WORKERS, dts,
@@ -13,6 +15,7 @@ use clap::{ArgMatches, Error as ClapError};
 use dts_base::{NoMemory, Text};
 use line_reader::number_in;
 use std::alloc::{AllocError, Global};
+use std::fmt;
 use thiserror::Error;
 
 /// What the words of a command line ask for.
@@ -76,6 +79,59 @@ pub enum ShowKind {
     Utc,
 }
 
+/// A number that a command takes.
+#[derive(Clone, Copy, Debug, PartialEq, Eq)]
+pub enum NumberName {
+    /// How many turns a half makes.
+    Turns,
+    /// The time that a half starts with.
+    Start,
+    /// How wrong that time may be.
+    Inaccuracy,
+    /// How many halves answer.
+    Workers,
+    /// What a capture is made from.
+    Seed,
+    /// How many events it has.
+    Events,
+}
+
+impl NumberName {
+    /// Its name in the words and in messages.
+    pub fn id(self) -> &'static str
+        ensures id { result.now ≡ id_of self }
+    {
+        match self {
+            NumberName::Turns => "turns",
+            NumberName::Start => "start",
+            NumberName::Inaccuracy => "inaccuracy",
+            NumberName::Workers => "workers",
+            NumberName::Seed => "seed",
+            NumberName::Events => "events",
+        }
+    }
+
+    /// The greatest that it may be.
+    pub fn greatest(self) -> u64
+        ensures greatest { result ≡ greatest_of self }
+    {
+        match self {
+            NumberName::Turns => MOST_TURNS,
+            NumberName::Start => LATEST_START,
+            NumberName::Inaccuracy => MOST_INACCURACY,
+            NumberName::Workers => MOST_WORKERS,
+            NumberName::Seed => MOST_SEED,
+            NumberName::Events => MOST_EVENTS,
+        }
+    }
+}
+
+impl fmt::Display for NumberName {
+    fn fmt<W: fmt::Write>(&self, f: &mut fmt::Formatter<W>) -> fmt::Result {
+        f.write_str(self.id())
+    }
+}
+
 /// Why words are no command. Its text is for the user.
 #[derive(Debug, Drop, Error)]
 pub enum NoCommand {
@@ -85,12 +141,15 @@ pub enum NoCommand {
     /// No command takes them.
     #[error("{0}")]
     Refused(ClapError),
-    /// A number has not its form.
-    #[error("a number is in decimal, without a sign and leading zeros")]
-    Number,
+    /// This number has not its form.
+    #[error("{0}: a number is in decimal, without a sign and leading zeros")]
+    Number(NumberName),
     /// `show` does not know the kind.
     #[error("KIND is pdu, ntp or utc")]
     Kind,
+    /// A word that the command needs is not there.
+    #[error("a word is missing")]
+    Missing,
     /// No memory was found.
     #[error("out of memory")]
     NoMemory,
@@ -130,38 +189,25 @@ impl From<NoMemory> for NoCommand {
 
 /// Reads the words after the program's name.
 pub fn read_words(alloc: Global, words: &[String]) -> Result<CommandLine, NoCommand>
-    ensures read { IsReading (meaning_of (map string_bytes words.now)) result }
+    ensures read { IsReading (map string_bytes words.now) result }
     ensures in_range { IfOk result IsInRange }
 {
     let matches = match dts(alloc)?.try_get_matches_from(words) {
         Ok(matches) => matches,
         Err(error) => return Err(NoCommand::from(error)),
     };
-    match found(alloc, &matches)? {
-        Some(line) => Ok(line),
-        None => Err(wrong_value(&matches)),
-    }
-}
-
-// What is wrong of values that clap took: `show` takes a kind, and the other commands take numbers.
-fn wrong_value(matches: &ArgMatches<'_>) -> NoCommand
-    ensures { IsReading nothing (Err result) }
-{
-    match matches.subcommand_name() {
-        Some("show") => NoCommand::Kind,
-        _ => NoCommand::Number,
-    }
+    found(alloc, &matches)
 }
 
 // The command that was found, if its values have their forms.
 #[tactic(auto, using(crate::proofs::WordFacts::pair_found, crate::proofs::WordFacts::none_found))]
-fn found(alloc: Global, matches: &ArgMatches<'_>) -> Result<Option<CommandLine>, NoMemory>
-    ensures found { IfOk result (λ line. line ≡ option_and_then (λ f. command_in f.0 f.1) (subcommand_rows_of matches.now)) }
-    ensures in_range { IfOk result (λ line. IfSome line IsInRange) }
+fn found(alloc: Global, matches: &ArgMatches<'_>) -> Result<CommandLine, NoCommand>
+    ensures found { FindsCommand (subcommand_rows_of matches.now) result }
+    ensures in_range { IfOk result IsInRange }
 {
     match matches.subcommand() {
         Some((name, matches)) => command_line(alloc, name, matches),
-        None => Ok(None),
+        None => Err(NoCommand::Missing),
     }
 }
 
@@ -170,22 +216,22 @@ fn command_line(
     alloc: Global,
     name: &str,
     matches: &ArgMatches<'_>,
-) -> Result<Option<CommandLine>, NoMemory>
-    ensures line { IfOk result (λ line. line ≡ command_in name.now (rows_of (found_of matches.now))) }
-    ensures in_range { IfOk result (λ line. IfSome line IsInRange) }
+) -> Result<CommandLine, NoCommand>
+    ensures line { FindsIfRoom (command_in name.now (rows_of (found_of matches.now))) (rows_of (found_of matches.now)) result }
+    ensures in_range { IfOk result IsInRange }
 {
     match name {
-        "replay" => Ok(Some(CommandLine::Replay {
+        "replay" => Ok(CommandLine::Replay {
             roster: is_given(matches, "roster"),
-        })),
-        "clerk" => Ok(clerk(matches)),
-        "server" => Ok(server(matches)),
-        "utc" => Ok(Some(CommandLine::Utc)),
-        "order" => Ok(Some(CommandLine::Order)),
-        "show" => Ok(show(matches)),
-        "drill" => Ok(drill(matches)),
+        }),
+        "clerk" => clerk(matches),
+        "server" => server(matches),
+        "utc" => Ok(CommandLine::Utc),
+        "order" => Ok(CommandLine::Order),
+        "show" => show(matches),
+        "drill" => drill(matches),
         "control" => control(alloc, matches),
-        _ => Ok(None),
+        _ => Err(NoCommand::Missing),
     }
 }
 
@@ -199,38 +245,39 @@ fn is_given(matches: &ArgMatches<'_>, flag: &str) -> bool
     }
 }
 
-fn clerk(matches: &ArgMatches<'_>) -> Option<CommandLine>
-    ensures line { result ≡ clerk_in (rows_of (found_of matches.now)) }
-    ensures in_range { IfSome result IsInRange }
+fn clerk(matches: &ArgMatches<'_>) -> Result<CommandLine, NoCommand>
+    ensures line { Finds (clerk_in (rows_of (found_of matches.now))) (rows_of (found_of matches.now)) result }
+    ensures in_range { IfOk result IsInRange }
 {
-    Some(CommandLine::Clerk(half_options(matches)?))
+    Ok(CommandLine::Clerk(half_options(matches)?))
 }
 
-fn server(matches: &ArgMatches<'_>) -> Option<CommandLine>
-    ensures line { result ≡ server_in (rows_of (found_of matches.now)) }
-    ensures in_range { IfSome result IsInRange }
+fn server(matches: &ArgMatches<'_>) -> Result<CommandLine, NoCommand>
+    ensures line { Finds (server_in (rows_of (found_of matches.now))) (rows_of (found_of matches.now)) result }
+    ensures in_range { IfOk result IsInRange }
 {
-    Some(CommandLine::Server {
+    Ok(CommandLine::Server {
         options: half_options(matches)?,
-        workers: small_number(matches, "workers", MOST_WORKERS)?,
+        workers: small_number(matches, NumberName::Workers)?,
     })
 }
 
-fn half_options(matches: &ArgMatches<'_>) -> Option<HalfOptions>
-    ensures { result ≡ half_in (rows_of (found_of matches.now)) }
+fn half_options(matches: &ArgMatches<'_>) -> Result<HalfOptions, NoCommand>
+    ensures { Finds (half_in (rows_of (found_of matches.now))) (rows_of (found_of matches.now)) result }
 {
-    Some(HalfOptions {
-        turns: number(matches, "turns", MOST_TURNS)?,
-        start: number(matches, "start", LATEST_START)?,
-        inaccuracy: number_if_given(matches, "inaccuracy", MOST_INACCURACY)?,
+    Ok(HalfOptions {
+        turns: number(matches, NumberName::Turns)?,
+        start: number(matches, NumberName::Start)?,
+        inaccuracy: number_if_given(matches, NumberName::Inaccuracy)?,
     })
 }
 
-fn show(matches: &ArgMatches<'_>) -> Option<CommandLine>
-    ensures line { result ≡ show_in (rows_of (found_of matches.now)) }
-    ensures in_range { IfSome result IsInRange }
+fn show(matches: &ArgMatches<'_>) -> Result<CommandLine, NoCommand>
+    ensures line { Finds (show_in (rows_of (found_of matches.now))) (rows_of (found_of matches.now)) result }
+    ensures in_range { IfOk result IsInRange }
 {
-    Some(CommandLine::Show(show_kind(text(matches, "kind")?)?))
+    let kind = text(matches, "kind").ok_or(NoCommand::Missing)?;
+    Ok(CommandLine::Show(show_kind(kind).ok_or(NoCommand::Kind)?))
 }
 
 fn show_kind(text: &str) -> Option<ShowKind>
@@ -244,30 +291,26 @@ fn show_kind(text: &str) -> Option<ShowKind>
     }
 }
 
-fn drill(matches: &ArgMatches<'_>) -> Option<CommandLine>
-    ensures line { result ≡ drill_in (rows_of (found_of matches.now)) }
-    ensures in_range { IfSome result IsInRange }
+fn drill(matches: &ArgMatches<'_>) -> Result<CommandLine, NoCommand>
+    ensures line { Finds (drill_in (rows_of (found_of matches.now))) (rows_of (found_of matches.now)) result }
+    ensures in_range { IfOk result IsInRange }
 {
-    Some(CommandLine::Drill {
-        seed: small_number(matches, "seed", MOST_SEED)?,
-        events: small_number(matches, "events", MOST_EVENTS)?,
+    Ok(CommandLine::Drill {
+        seed: small_number(matches, NumberName::Seed)?,
+        events: small_number(matches, NumberName::Events)?,
     })
 }
 
-fn control(alloc: Global, matches: &ArgMatches<'_>) -> Result<Option<CommandLine>, NoMemory>
-    ensures line { IfOk result (λ line. line ≡ control_in (rows_of (found_of matches.now))) }
-    ensures in_range { IfOk result (λ line. IfSome line IsInRange) }
+fn control(alloc: Global, matches: &ArgMatches<'_>) -> Result<CommandLine, NoCommand>
+    ensures line { FindsIfRoom (control_in (rows_of (found_of matches.now))) (rows_of (found_of matches.now)) result }
+    ensures in_range { IfOk result IsInRange }
 {
-    let Some(address) = text(matches, "address") else {
-        return Ok(None);
-    };
-    let Some(words) = texts(matches, "words") else {
-        return Ok(None);
-    };
-    Ok(Some(CommandLine::Control {
+    let address = text(matches, "address").ok_or(NoCommand::Missing)?;
+    let words = texts(matches, "words").ok_or(NoCommand::Missing)?;
+    Ok(CommandLine::Control {
         address: Text::from_slice(alloc, address.as_bytes())?,
         command: joined(alloc, words)?,
-    }))
+    })
 }
 
 // Words with a space between them.
@@ -279,30 +322,34 @@ fn joined(alloc: Global, words: &[&str]) -> Result<Text, NoMemory>
     Text::from_slice(alloc, text.as_bytes())
 }
 
-// The number up to `most` that was given under a name, or stands for it.
-fn number(matches: &ArgMatches<'_>, name: &str, most: u64) -> Option<u64>
-    ensures number { result ≡ number_at name.now most (rows_of (found_of matches.now)) }
-    ensures bound { IfSome result (λ n. n ≤ most) }
+// The number of this name that was given, or stands for it.
+fn number(matches: &ArgMatches<'_>, name: NumberName) -> Result<u64, NoCommand>
+    ensures number { Finds (number_at (id_of name) (greatest_of name) (rows_of (found_of matches.now))) (rows_of (found_of matches.now)) result }
+    ensures bound { IfOk result (λ n. n ≤ greatest_of name) }
 {
-    plain_number(text(matches, name)?, most)
+    let text = text(matches, name.id()).ok_or(NoCommand::Missing)?;
+    plain_number(text, name.greatest()).ok_or(NoCommand::Number(name))
 }
 
 // The same of one of 32 bits.
-fn small_number(matches: &ArgMatches<'_>, name: &str, most: u64) -> Option<u32>
-    requires { most ≤ 2 ^ 32 - 1 }
-    ensures number { result ≡ number_at name.now most (rows_of (found_of matches.now)) }
-    ensures bound { IfSome result (λ n. n ≤ most) }
+fn small_number(matches: &ArgMatches<'_>, name: NumberName) -> Result<u32, NoCommand>
+    requires { greatest_of name ≤ 2 ^ 32 - 1 }
+    ensures number { Finds (number_at (id_of name) (greatest_of name) (rows_of (found_of matches.now))) (rows_of (found_of matches.now)) result }
+    ensures bound { IfOk result (λ n. n ≤ greatest_of name) }
 {
-    Some(number(matches, name, most)? as u32)
+    Ok(number(matches, name)? as u32)
 }
 
 // The same of one that may be left out.
-fn number_if_given(matches: &ArgMatches<'_>, name: &str, most: u64) -> Option<Option<u64>>
-    ensures { result ≡ number_if_given name.now most (rows_of (found_of matches.now)) }
+fn number_if_given(matches: &ArgMatches<'_>, name: NumberName) -> Result<Option<u64>, NoCommand>
+    ensures { Finds (number_if_given (id_of name) (greatest_of name) (rows_of (found_of matches.now))) (rows_of (found_of matches.now)) result }
 {
-    match text(matches, name) {
-        Some(text) => Some(Some(plain_number(text, most)?)),
-        None => Some(None),
+    match text(matches, name.id()) {
+        Some(text) => match plain_number(text, name.greatest()) {
+            Some(number) => Ok(Some(number)),
+            None => Err(NoCommand::Number(name)),
+        },
+        None => Ok(None),
     }
 }
 

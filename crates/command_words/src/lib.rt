@@ -6,5 +6,5 @@ mod command_line;
 mod laws;
 mod syntax;
 
-pub use command_line::{CommandLine, HalfOptions, NoCommand, ShowKind, read_words};
+pub use command_line::{CommandLine, HalfOptions, NoCommand, NumberName, ShowKind, read_words};
 pub use laws::words_have_their_meaning;

@@ -163,9 +163,7 @@ pub fn run<
         Err(NoCommand::Shown(text)) => show_text(alloc, &text, &mut out.output),
         Err(NoCommand::NoMemory) => Status::NoMemory,
         Ok(_unbuilt) => Status::Usage,
-        Err(NoCommand::Refused(_why)) => Status::Usage,
-        Err(NoCommand::Number) => Status::Usage,
-        Err(NoCommand::Kind) => Status::Usage,
+        Err(_wrong) => Status::Usage,
     }
 }
 

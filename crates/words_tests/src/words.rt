@@ -1,5 +1,5 @@
 use assertions::{assert_at, assert_equal_at};
-use command_words::{CommandLine, HalfOptions, NoCommand, ShowKind, read_words};
+use command_words::{CommandLine, HalfOptions, NoCommand, NumberName, ShowKind, read_words};
 use dts_base::Text;
 use std::alloc::{AllocError, Global};
 use std::io::Eprint;
@@ -67,7 +67,7 @@ fn words_mean_their_command(rt: HostRuntime) -> Result<(), Fail> {
 #[derive(Clone, Copy, Debug, PartialEq, Eq)]
 enum Wrong {
     Refused,
-    Number,
+    Number(NumberName),
     Kind,
 }
 
@@ -75,7 +75,7 @@ enum Wrong {
 fn refusal(alloc: Global, line: &str) -> Result<Option<Wrong>, AllocError> {
     Ok(match read(alloc, line)? {
         Err(NoCommand::Refused(_)) => Some(Wrong::Refused),
-        Err(NoCommand::Number) => Some(Wrong::Number),
+        Err(NoCommand::Number(name)) => Some(Wrong::Number(name)),
         Err(NoCommand::Kind) => Some(Wrong::Kind),
         _ => None,
     })
@@ -116,22 +116,25 @@ drill 0 1000001
 control
 control 127.0.0.1:7001";
 
-// Numbers that have not their form.
-const NUMBERS: &str = "clerk --turns 01
-clerk --turns +1
-drill 00 0";
-
 #[test]
 fn wrong_words_are_refused(rt: HostRuntime) -> Result<(), Fail> {
-    for (lines, why) in [
-        (REFUSED, Wrong::Refused),
-        (NUMBERS, Wrong::Number),
-        ("show x", Wrong::Kind),
-    ] {
-        for line in lines.lines() {
-            assert_equal_at!(rt; line, refusal(rt.alloc(), line)?, Some(why));
-        }
+    for line in REFUSED.lines() {
+        assert_equal_at!(rt; line, refusal(rt.alloc(), line)?, Some(Wrong::Refused));
     }
+    for (line, name) in [
+        ("clerk --turns 01", NumberName::Turns),
+        ("clerk --turns +1", NumberName::Turns),
+        ("clerk --start 00", NumberName::Start),
+        ("clerk --turns 1 --inaccuracy +0", NumberName::Inaccuracy),
+        ("server --start +0", NumberName::Start),
+        ("server --turns 2 --workers 01", NumberName::Workers),
+        ("drill 00 0", NumberName::Seed),
+        ("drill 0 00", NumberName::Events),
+        ("drill 7 +1", NumberName::Events),
+    ] {
+        assert_equal_at!(rt; line, refusal(rt.alloc(), line)?, Some(Wrong::Number(name)));
+    }
+    assert_equal_at!(rt; "show x", refusal(rt.alloc(), "show x")?, Some(Wrong::Kind));
     for line in [
         "replay --roster",
         "--help",
