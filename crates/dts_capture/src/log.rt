@@ -152,9 +152,7 @@ fn note_line(alloc: Global, note: &Note) -> Result<LineWriter, NoMemory>
         }
         NoteKind::Adopted { n, lo, hi } => four_numbers(alloc, "adopted", osc, *n, *lo, *hi),
         NoteKind::False(source) => false_source(alloc, osc, *source),
-        NoteKind::Step { step, old, new } => {
-            four_numbers(alloc, "step", osc, *step, *old, *new)
-        }
+        NoteKind::Step { step, old, new } => four_numbers(alloc, "step", osc, *step, *old, *new),
         NoteKind::Short { answered, required } => {
             three_numbers(alloc, "short", osc, *answered, *required)
         }
