@@ -10,7 +10,7 @@ use Rattle.command_words.specs.declared.command_line.NoCommand.{NoCommand}
 use Rattle.command_words.specs.declared.command_line.NoCommand.TheVariants as no
 use Rattle.command_words.specs.Syntax.{dts}
 use Rattle.command_words.specs.Words.{asks, command_in, is_request_kind, meaning_by, meaning_of, means, nothing}
-use Rattle.command_words.specs.Reading.{IsMisspelled, IsReading}
+use Rattle.command_words.specs.Reading.{IsMisspelled, IsNoKind, IsReading}
 use Rattle.command_words.specs.Finding.{FindsCommand, Lacks, refusal_of}
 use Rattle.command_words.proofs.FaultKinds.{AreAlike, faults_alike}
 
@@ -39,7 +39,7 @@ read_so words (Some found) (Err why) none is (inr (finds, lacks)) = go why lacks
 
     go : (why : NoCommand) → Lacks found.1 why → IsReading words (Err why)
     go (no.Number name) lacks = (means_nothing, subst (λ f. IsSomeAnd f (λ g. IsMisspelled name g.1)) is lacks)
-    go no.Kind lacks = means_nothing
+    go no.Kind lacks = (means_nothing, subst (λ f. IsSomeAnd f (λ g. IsNoKind g.1)) is lacks)
     go no.Missing lacks = means_nothing
     go (no.Shown text) lacks = absurd lacks
     go (no.Refused error) lacks = absurd lacks

@@ -7,13 +7,13 @@ use Rattle.clap.specs.declared.error.ErrorKind.TheVariants as kind
 use Rattle.command_words.specs.declared.command_line.CommandLine.{CommandLine}
 use Rattle.command_words.specs.declared.command_line.NoCommand.{NoCommand}
 use Rattle.command_words.specs.declared.command_line.NoCommand.TheVariants as no
-use Rattle.command_words.specs.Reading.{IsMisspelled}
+use Rattle.command_words.specs.Reading.{IsMisspelled, IsNoKind}
 use Rattle.command_words.specs.Words.{command_in}
 
 -- the rows lack what this error says
 abbrev pub Lacks : List Row → NoCommand → Type 0
 Lacks rows (no.Number name) = IsMisspelled name rows
-Lacks rows no.Kind = Unit {0}
+Lacks rows no.Kind = IsNoKind rows
 Lacks rows no.Missing = Unit {0}
 Lacks rows _ = ⊥
 

@@ -9,7 +9,7 @@ use Rattle.command_words.specs.declared.command_line.NoCommand.{NoCommand}
 use Rattle.command_words.specs.declared.command_line.NoCommand.TheVariants as no
 use Rattle.command_words.specs.declared.syntax.TheConstants.{LATEST_START, MOST_EVENTS, MOST_INACCURACY, MOST_SEED, MOST_TURNS, MOST_WORKERS}
 use Rattle.command_words.specs.Syntax.{dts}
-use Rattle.command_words.specs.Words.{asks, meaning_of, means, nothing, number_in}
+use Rattle.command_words.specs.Words.{asks, kind_in, meaning_of, means, nothing, number_in}
 
 -- the name of a number in the words, and the greatest that it may be
 abbrev pub id_of : NumberName → Text
@@ -28,17 +28,21 @@ greatest_of number.Workers = MOST_WORKERS
 greatest_of number.Seed = MOST_SEED
 greatest_of number.Events = MOST_EVENTS
 
--- the number is given, and not in plain decimal
+-- the number is given, and not in plain decimal and its range
 abbrev pub IsMisspelled : NumberName → List Row → Type 0
 IsMisspelled name rows = IsSomeAnd (first_of (id_of name) rows) (λ text. number_in (greatest_of name) text ≡ None)
 
--- The words were read so. A number that is named is given, and is not in plain decimal.
+-- the kind is given, and is none of those that there are
+abbrev pub IsNoKind : List Row → Type 0
+IsNoKind rows = IsSomeAnd (first_of (codes "kind") rows) (λ text. kind_in text ≡ None)
+
+-- The words were read so. What is told as wrong is given, and is wrong.
 abbrev pub IsReading : List Text → Result CommandLine NoCommand → Type 0
 IsReading words (Ok line) = meaning_of words ≡ means line
 IsReading words (Err (no.Shown text)) = meaning_of words ≡ asks
 IsReading words (Err (no.Refused why)) = meaning_of words ≡ nothing
 IsReading words (Err (no.Number name)) = (meaning_of words ≡ nothing) × IsSomeAnd (subcommand_of dts words) (λ found. IsMisspelled name found.1)
-IsReading words (Err no.Kind) = meaning_of words ≡ nothing
+IsReading words (Err no.Kind) = (meaning_of words ≡ nothing) × IsSomeAnd (subcommand_of dts words) (λ found. IsNoKind found.1)
 IsReading words (Err no.Missing) = meaning_of words ≡ nothing
 IsReading words (Err no.NoMemory) = Unit {0}
 
